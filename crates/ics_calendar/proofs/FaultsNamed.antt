@@ -16,8 +16,9 @@ use Rattle.ics_calendar.specs.Files.{decide, later_fault, lines_say, said_of}
 use Rattle.ics_calendar.specs.GivenFiles.{GivenFiles}
 use Rattle.ics_calendar.specs.Parts.{Part, fault_in, lines_of, parts_give, parts_of, rest_of}
 use Rattle.ics_calendar.specs.Settled.{first_judged}
-use Rattle.ics_calendar.specs.SoundParts.{PartsSeen, SoundEventSeen, checks_of, given_by_parts, is_no_fault, is_sound, later_faults, later_named, later_of}
-use Rattle.ics_calendar.specs.SoundParts.{listed, of_parts}
+use Rattle.ics_calendar.specs.Inner.SoundParts.{PartsSeen, SoundEventSeen, checks_of, given_by_parts, is_no_fault, is_sound, later_faults, later_named}
+use Rattle.ics_calendar.specs.Inner.SoundParts.{later_of}
+use Rattle.ics_calendar.specs.Inner.SoundParts.{listed, of_parts}
 use Rattle.ics_calendar.proofs.InOrder.{IsWithin, same-order}
 use Rattle.ics_calendar.proofs.OneUid.{was-flattened}
 use Rattle.ics_calendar.proofs.PartLaws.{at-cons, flattened, here, is-here, no-element, there}

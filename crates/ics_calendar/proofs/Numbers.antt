@@ -13,7 +13,7 @@ use Rattle.ics_components.specs.PartFaults.{earlier}
 use Rattle.ics_components.specs.Parted.{PartedComponentSeen}
 use Rattle.ics_calendar.specs.Inner.PartsRead.{Labelled, Numbered, is_key, keys_of, labelled, least_at, nothing_labelled, number_of, place_from, with_event}
 use Rattle.ics_calendar.specs.Inner.PartsRead.{with_key}
-use Rattle.ics_calendar.specs.SoundParts.{fault_there}
+use Rattle.ics_calendar.specs.Inner.SoundParts.{fault_there}
 use Rattle.ics_calendar.proofs.Shared.{long-more, place-more}
 
 abbrev pub Keys : Type 0

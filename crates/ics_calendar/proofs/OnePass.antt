@@ -21,7 +21,7 @@ use Rattle.ics_calendar.specs.Files.{unresolved_of}
 use Rattle.ics_calendar.specs.Parts.{is_parted}
 use Rattle.ics_calendar.specs.Inner.PartsRead.{first_of, is_on_first, sound_in, whole_of}
 use Rattle.ics_calendar.specs.Settled.{known_in, unresolved_by}
-use Rattle.ics_calendar.specs.SoundParts.{SoundEventSeen}
+use Rattle.ics_calendar.specs.Inner.SoundParts.{SoundEventSeen}
 use Rattle.ics_calendar.specs.UnresolvedFiles.{IsFirstOf}
 use Rattle.ics_calendar.proofs.AllGathered.{all-gathered}
 use Rattle.ics_calendar.proofs.FirstOfAll.{first-of-all}

@@ -12,7 +12,7 @@ use Rattle.ics_components.specs.declared.fault.Fault.{Fault}
 use Rattle.ics_components.specs.ParsedFileSeen.{ParsedFileSeen}
 use Rattle.ics_components.specs.Parted.{PartedComponentSeen}
 use Rattle.ics_calendar.specs.Inner.PartsRead.{Labelled, Numbered, keys_of, labelled, nothing_labelled, place_from, sound_in, with_event, with_key}
-use Rattle.ics_calendar.specs.SoundParts.{SoundEventSeen, of_parts}
+use Rattle.ics_calendar.specs.Inner.SoundParts.{SoundEventSeen, of_parts}
 use Rattle.ics_calendar.proofs.Numbers.{Are_long, Keys, events-long, has, key-at, keys-long}
 use Rattle.ics_calendar.proofs.NumbersBack.{IsAlone, events-alone, itself, keys-alone, not-alone, now-alone, place-now, still-alone}
 use Rattle.ics_calendar.proofs.OneUid.{any-of}

@@ -12,7 +12,7 @@ use Rattle.ics_components.specs.Parted.{PartedComponentSeen, component_seen}
 use Rattle.ics_components.specs.PlacedLines.{Placed}
 use Rattle.ics_calendar.specs.Parts.{Part, parts_of}
 use Rattle.ics_calendar.specs.Inner.PartsRead.{Labelled, keys_of, labelled, nothing_labelled, place_from, with_event, with_key}
-use Rattle.ics_calendar.specs.SoundParts.{SoundEventSeen}
+use Rattle.ics_calendar.specs.Inner.SoundParts.{SoundEventSeen}
 use Rattle.ics_calendar.proofs.Numbers.{has}
 use Rattle.ics_calendar.proofs.NumbersBack.{IsAlone}
 use Rattle.ics_calendar.proofs.OneUid.{AtMostOne, any-of, each-part, was-mapped}

@@ -15,7 +15,7 @@ use Rattle.ics_components.specs.Parted.{PartedComponentSeen, component_seen}
 use Rattle.ics_components.specs.PlacedLines.{Placed}
 use Rattle.ics_calendar.specs.Parts.{Part, parts_of}
 use Rattle.ics_calendar.specs.Inner.PartsRead.{Labelled, Numbered, is_key, keys_of, labelled, nothing_labelled, place_from, sound_in, with_event, with_key}
-use Rattle.ics_calendar.specs.SoundParts.{SoundEventSeen}
+use Rattle.ics_calendar.specs.Inner.SoundParts.{SoundEventSeen}
 use Rattle.ics_calendar.specs.Wanted.{each_once}
 use Rattle.ics_calendar.proofs.Numbers.{Are_long, Keys, at, events-at, events-long, first_of, has, key-at, noted, uid-first}
 use Rattle.ics_calendar.proofs.NumbersBack.{IsAlone, IsLone, first-back, keys-alone, now-alone, place-now}

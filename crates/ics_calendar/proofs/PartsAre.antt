@@ -15,10 +15,10 @@ use Rattle.ics_components.proofs.PlacedApart.{AreParted, are_parted}
 use Rattle.ics_calendar.specs.DeferredChecks.{KnownZones, with_files}
 use Rattle.ics_calendar.specs.GivenFiles.{GivenFiles, no_files}
 use Rattle.ics_calendar.specs.Parts.{Part, is_parted, lines_of, parts_give, parts_of, parts_want}
-use Rattle.ics_calendar.specs.PartialFiles.{parts_in}
+use Rattle.ics_calendar.specs.Inner.PartialFiles.{parts_in}
 use Rattle.ics_calendar.specs.Inner.PartsRead.{AreRead, fault_needed, sound_zones}
 use Rattle.ics_calendar.specs.Settled.{known_in}
-use Rattle.ics_calendar.specs.SoundParts.{PartsSeen, given_by_parts, parts_said, wanted_by}
+use Rattle.ics_calendar.specs.Inner.SoundParts.{PartsSeen, given_by_parts, parts_said, wanted_by}
 use Rattle.ics_calendar.proofs.FaultsNamed.{same-named}
 use Rattle.ics_calendar.proofs.OneEach.{one-each}
 use Rattle.ics_calendar.proofs.PartKept.{OneEach}

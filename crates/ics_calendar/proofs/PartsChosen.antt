@@ -20,7 +20,7 @@ use Rattle.ics_components.proofs.Opened.{any-in, in-any, one-begin}
 use Rattle.ics_components.proofs.RestFaults.{in-filter, left-or}
 use Rattle.ics_calendar.specs.Parts.{Part, parts_of}
 use Rattle.ics_calendar.specs.Inner.PartsRead.{Labelled, labelled, nothing_labelled, sound_in, with_event}
-use Rattle.ics_calendar.specs.SoundParts.{SoundEventSeen, of_parts}
+use Rattle.ics_calendar.specs.Inner.SoundParts.{SoundEventSeen, of_parts}
 use Rattle.ics_calendar.proofs.OneEach.{part-within}
 use Rattle.ics_calendar.proofs.OneUid.{AtMostOne, contains-in, each-part, in-contains, none-has, was-flattened, was-kept}
 use Rattle.ics_calendar.proofs.PartEvents.{sounds}

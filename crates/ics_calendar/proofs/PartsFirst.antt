@@ -24,7 +24,7 @@ use Rattle.ics_calendar.specs.GivenFiles.{GivenFiles, no_files}
 use Rattle.ics_calendar.specs.Parts.{Part, lines_of, parts_of, parts_want, sound_parts}
 use Rattle.ics_calendar.specs.Inner.PartsRead.{AreRead, Labelled, fault_needed, labelled, sound_zones}
 use Rattle.ics_calendar.specs.Settled.{all_unknown, first_judged, known_in}
-use Rattle.ics_calendar.specs.SoundParts.{PartsSeen, SoundEventSeen, checks_of, is_no_fault, is_sound, later_of, listed, of_parts, wanted_by}
+use Rattle.ics_calendar.specs.Inner.SoundParts.{PartsSeen, SoundEventSeen, checks_of, is_no_fault, is_sound, later_of, listed, of_parts, wanted_by}
 use Rattle.ics_calendar.specs.Wanted.{each_once, unknown_names}
 use Rattle.ics_calendar.proofs.OneUid.{was-flattened, was-kept, was-mapped}
 use Rattle.ics_calendar.proofs.PartChecks.{IsWanted, checks, checks-alike, checks_on, later-is, some_zones, wants-are}

@@ -23,12 +23,12 @@ use Rattle.ics_components.specs.declared.deferred_check.ZoneName.{ZoneName}
 use Rattle.ics_calendar.specs.DeferredChecks.{KnownZones, unknown_in}
 use Rattle.ics_calendar.specs.Inner.UnknownNames.{name_in}
 use Rattle.ics_calendar.specs.Settled.{all_unknown, first_judged}
-use Rattle.ics_calendar.specs.SoundParts.{accepted_of, checks_of, fault_there, faults_at, gathered_of, is_no_fault, is_sound, later_faults, later_named}
-use Rattle.ics_calendar.specs.SoundParts.{later_of}
+use Rattle.ics_calendar.specs.Inner.SoundParts.{accepted_of, checks_of, fault_there, faults_at, gathered_of, is_no_fault, is_sound, later_faults, later_named}
+use Rattle.ics_calendar.specs.Inner.SoundParts.{later_of}
 use Rattle.ics_calendar.specs.GivenFiles.{GivenFiles}
 use Rattle.ics_calendar.specs.Parts.{Given, in_order}
-use Rattle.ics_calendar.specs.SoundParts.{PartsSeen, given_by_parts, listed, named_at, of_parts, said_with, zones_for}
-use Rattle.ics_calendar.specs.SoundParts.{SoundEventSeen}
+use Rattle.ics_calendar.specs.Inner.SoundParts.{PartsSeen, given_by_parts, listed, named_at, of_parts, said_with, zones_for}
+use Rattle.ics_calendar.specs.Inner.SoundParts.{SoundEventSeen}
 
 -- the elements up to a place, and those up to the next
 pub next-take : {X : Type 0} (xs : List X) (i : ℕ) (x : X) → x ≡ get_or xs i x → i < length xs → take (i + 1) xs ≡ take i xs ++ x ∷ []

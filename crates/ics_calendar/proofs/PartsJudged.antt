@@ -11,7 +11,7 @@ use Rattle.ics_calendar.specs.Files.{later_fault, lines_say}
 use Rattle.ics_calendar.specs.GivenFiles.{GivenFiles}
 use Rattle.ics_calendar.specs.Parts.{Part, fault_in, lines_of, parts_of, rest_of}
 use Rattle.ics_calendar.specs.Inner.PartsRead.{Labelled, labelled}
-use Rattle.ics_calendar.specs.SoundParts.{PartsSeen, SoundEventSeen, later_of, listed}
+use Rattle.ics_calendar.specs.Inner.SoundParts.{PartsSeen, SoundEventSeen, later_of, listed}
 use Rattle.ics_calendar.proofs.FaultsNamed.{AreJudged, IsPartAt}
 use Rattle.ics_calendar.proofs.PartKept.{IsKept, into-kept, of-kept}
 use Rattle.ics_calendar.proofs.PartNumbers.{back-number, events, first_of_part}

@@ -26,8 +26,8 @@ use Rattle.ics_calendar.specs.Files.{UnresolvedSaid, decide, later_fault, lines_
 use Rattle.ics_calendar.specs.GivenFiles.{GivenFiles}
 use Rattle.ics_calendar.specs.Parts.{Part, accepted_parts, is_parted, lines_of, parts_give, parts_of, said_in}
 use Rattle.ics_calendar.specs.Inner.PartsRead.{AreRead, fault_needed, sound_in, sound_zones}
-use Rattle.ics_calendar.specs.SoundParts.{PartsSeen, SoundEventSeen, accepted_of, gathered_of, given_by_parts, is_no_fault, is_sound, later_of}
-use Rattle.ics_calendar.specs.SoundParts.{names_zone, of_parts, said_with, zones_for}
+use Rattle.ics_calendar.specs.Inner.SoundParts.{PartsSeen, SoundEventSeen, accepted_of, gathered_of, given_by_parts, is_no_fault, is_sound, later_of}
+use Rattle.ics_calendar.specs.Inner.SoundParts.{names_zone, of_parts, said_with, zones_for}
 use Rattle.ics_calendar.proofs.FaultsNamed.{IsPartAt}
 use Rattle.ics_calendar.proofs.OneEach.{one-each}
 use Rattle.ics_calendar.proofs.OneUid.{in-contains, was-kept}

@@ -24,7 +24,7 @@ use Rattle.ics_calendar.specs.GivenFiles.{GivenFiles}
 use Rattle.ics_calendar.specs.Parts.{fault_in, rest_of}
 use Rattle.ics_calendar.specs.Inner.PartsRead.{fault_of_rest, fault_read}
 use Rattle.ics_calendar.specs.Settled.{all_unknown, known_in, settled_by}
-use Rattle.ics_calendar.specs.SoundParts.{listed}
+use Rattle.ics_calendar.specs.Inner.SoundParts.{listed}
 use Rattle.ics_calendar.specs.Wanted.{each_once}
 use Rattle.ics_calendar.proofs.LinesSettle.{lines_settle}
 use Rattle.ics_calendar.proofs.PartFirst.{zone-nothing}

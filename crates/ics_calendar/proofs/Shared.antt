@@ -11,7 +11,7 @@ use Rattle.ics_components.specs.declared.fault.Fault.{Fault}
 use Rattle.ics_components.specs.Parted.{PartedComponentSeen, PartedFileSeen}
 use Rattle.ics_calendar.specs.Inner.SharedFaults.{AreShared, needed_by}
 use Rattle.ics_calendar.specs.Inner.PartsRead.{fault_needed, fault_read, sound_zones, zones_in}
-use Rattle.ics_calendar.specs.SoundParts.{SoundEventSeen}
+use Rattle.ics_calendar.specs.Inner.SoundParts.{SoundEventSeen}
 use Rattle.ics_calendar.specs.declared.shared_faults.SharedFaults.{SharedFaults}
 use Rattle.ics_components.specs.declared.parsed_file.CalendarZone.{CalendarZone}
 use Rattle.ics_components.specs.ParsedFileSeen.{ParsedFileSeen}

@@ -23,6 +23,4 @@ pub mod Settled
 pub mod ZoneTables
 pub mod UnresolvedFiles
 pub mod Parts
-pub mod SoundParts
-pub mod PartialFiles
 pub mod Inner

@@ -19,6 +19,11 @@ use Rattle.ics_calendar.specs.Files.{file_of, lines_say, wanted_names}
 use Rattle.ics_calendar.specs.GivenFiles.{GivenFiles}
 use Rattle.ics_calendar.specs.Wanted.{each_once, unknown_names}
 
+-- a file by its name and its bytes
+pub record NamedFile : Type 0 where
+  pub name : List ℕ
+  pub bytes : List ℕ
+
 -- A PART is some of the events of a file, by their BEGIN lines.
 abbrev pub Part : Type 0
 Part = List Placed

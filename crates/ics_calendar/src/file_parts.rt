@@ -10,10 +10,11 @@ ghost use Rattle.ics_event.specs.Event.{said_by};
 ghost use Rattle.ics_calendar.specs.DeferredChecks.{is_same};
 ghost use Rattle.ics_calendar.specs.Parts.{fault_cmp, in_order};
 ghost use Rattle.ics_components.specs.Parted.{IsSoundParted, parted_of};
-ghost use Rattle.ics_calendar.specs.PartialFiles.{ArePartsOf};
+ghost use Rattle.ics_calendar.specs.Inner.PartialFiles.{ArePartsOf};
 ghost use Rattle.ics_calendar.specs.Inner.PartsRead.{AreRead};
-ghost use Rattle.ics_calendar.specs.SoundParts.{checks_of, faults_at, is_sound, later_of, listed, gathered_of, named_at, names_zone, of_parts, parts_said};
-ghost use Rattle.ics_calendar.specs.SoundParts.{wanted_by, said_with, zones_for};
+ghost use Rattle.ics_calendar.specs.Inner.SoundParts.{checks_of, faults_at, is_sound, later_of, listed, gathered_of, named_at, names_zone, of_parts};
+ghost use Rattle.ics_calendar.specs.Inner.SoundParts.{parts_said};
+ghost use Rattle.ics_calendar.specs.Inner.SoundParts.{wanted_by, said_with, zones_for};
 ghost use Rattle.ics_calendar.specs.ZoneTables.{given_by, known_by, name_cmp};
 
 use crate::given_file::GivenFile;
@@ -44,7 +45,7 @@ pub struct SoundEvent {
 }
 
 impl Model for SoundEvent {
-    ghost use Rattle.ics_calendar.specs.SoundParts.{SoundEventSeen};
+    ghost use Rattle.ics_calendar.specs.Inner.SoundParts.{SoundEventSeen};
 
     ghost Value = { SoundEventSeen };
 
@@ -68,7 +69,7 @@ impl Model for FileParts {
     ghost use Rattle.std.specs.Coded.{codes};
     ghost use Rattle.std.specs.Prelude.{◌≡◌};
     ghost use Rattle.ics_calendar.specs.contracts.zone_table.ZoneTable as zone_table;
-    ghost use Rattle.ics_calendar.specs.SoundParts.{AreSoundParts, PartsSeen, wanted_by};
+    ghost use Rattle.ics_calendar.specs.Inner.SoundParts.{AreSoundParts, PartsSeen, wanted_by};
     ghost use Rattle.ics_calendar.specs.ZoneTables.{known_by};
 
     ghost Value = { PartsSeen };

@@ -39,9 +39,11 @@ pub struct PartialFile<'a> {
 
 impl<'a> Model for PartialFile<'a> {
     ghost use Rattle.std.specs.Prelude.{◌≤◌, length};
-    ghost use Rattle.ics_calendar.specs.PartialFiles.{IsRead, NamedFile};
+    ghost use Rattle.ics_calendar.specs.Parts.{NamedFile};
 
     ghost Value = { NamedFile };
+
+    ghost use Rattle.ics_calendar.specs.Inner.PartialFiles.{IsRead};
 
     ghost view = { λ a. record { name = a.name.now; bytes = a.bytes.now } };
 

@@ -4,7 +4,7 @@ ghost use Rattle.std.specs.List.{flat_map};
 ghost use Rattle.ics_components.specs.Parted.{IsSoundParted};
 ghost use Rattle.ics_calendar.specs.Inner.PartsRead.{first_of, is_on_first, sound_in, whole_of};
 ghost use Rattle.ics_calendar.specs.Settled.{known_in, unresolved_by};
-ghost use Rattle.ics_calendar.specs.SoundParts.{gathered_of};
+ghost use Rattle.ics_calendar.specs.Inner.SoundParts.{gathered_of};
 ghost use Rattle.ics_calendar.specs.UnresolvedFiles.{unresolved_said};
 
 use crate::shared_faults::{fault_of_rest, sound_zones};

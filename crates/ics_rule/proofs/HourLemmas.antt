@@ -14,10 +14,10 @@ use Rattle.ics_rule.specs.PeriodNumbers.{period, day_of, hour_of, minute_of, sec
 use Rattle.ics_fields.specs.Locals.{number}
 use Rattle.ics_rule.specs.EffectiveRules.{effective, skips_hours}
 use Rattle.ics_rule.specs.Candidates.{lets, lets_clock}
-use Rattle.ics_rule.specs.Kept.{is_chosen, is_kept, is_by_until}
+use Rattle.ics_rule.specs.Kept.{is_chosen, is_kept, is_by_until, KeepsTimes}
 use Rattle.ics_rule.specs.Inner.Searches.{is_wanted}
 use Rattle.ics_rule.specs.declared.hour.HourTimes.{HourTimes}
-use Rattle.ics_rule.specs.HoursKept.{KeepsEnds, KeepsTimes}
+use Rattle.ics_rule.specs.Inner.HoursKept.{KeepsEnds}
 use Rattle.ics_rule.specs.Next.{NoneKept}
 use Rattle.ics_rule.proofs.Counts.{count_mono}
 use Rattle.ics_rule.proofs.KeptLemmas.{and_true}

@@ -1,4 +1,5 @@
 -- Words of private contracts and of proofs: no public clause reaches them.
+pub mod HoursKept
 pub mod NamedWeekdays
 pub mod DateParts
 pub mod Searches

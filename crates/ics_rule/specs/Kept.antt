@@ -1,14 +1,16 @@
 -- Which locals a rule keeps (RFC 5545, 3.3.10).
-use Rattle.std.specs.Prelude.{ℕ, zero, suc, ◌+◌, Bool, true, false, ◌&&◌, ◌||◌, ◌==◌, nat_le, nat_lt, if◌then◌else◌, Option, Some, None, ℤ}
+use Rattle.std.specs.Prelude.{◌≡◌, ℕ, zero, suc, ◌+◌, ◌/◌, Bool, true, false, ◌&&◌, ◌||◌, ◌==◌, nat_le, nat_lt, if◌then◌else◌, Option, Some, None, ℤ}
 use Rattle.ics_fields.specs.declared.until.Until.{Until}
 use Rattle.ics_fields.specs.declared.until.Until.TheVariants as until
 use Rattle.ics_fields.specs.Days.{day_index}
 use Rattle.ics_fields.specs.Ordinals.{lists_none_wide}
+use Rattle.ics_fields.specs.Sets.{contains}
 use Rattle.ics_rule.specs.declared.kind.Kind.{Kind}
 use Rattle.ics_rule.specs.declared.kind.Kind.TheVariants.{Date, DateTime}
 use Rattle.ics_rule.specs.declared.effective_rule.EffectiveRule.{EffectiveRule}
+use Rattle.ics_rule.specs.declared.hour.HourTimes.{HourTimes}
 use Rattle.ics_rule.specs.Recurrence.{Recurrence}
-use Rattle.ics_rule.specs.PeriodNumbers.{day_of, rules_end}
+use Rattle.ics_rule.specs.PeriodNumbers.{day_of, minute_of, second_of, rules_end}
 use Rattle.ics_fields.specs.Locals.{number, local_seconds, calendar_end}
 use Rattle.ics_rule.specs.EffectiveRules.{effective}
 use Rattle.ics_rule.specs.Candidates.{is_candidate_in, lists_wide, period_in}
@@ -75,3 +77,8 @@ until_moment_of Date u = None
 
 unfoldable pub until_moment : Recurrence → Option ℤ
 until_moment r = until_moment_of r.kind r.parts.until
+
+-- of the locals of an hour, a rule keeps those with one of some minutes and one of some seconds
+abbrev pub KeepsTimes : Recurrence → ℕ → HourTimes → Type 0
+KeepsTimes r hour times =
+    (n : ℕ) → n / 3_600 ≡ hour → is_kept r n ≡ (contains times.minutes (minute_of n) && contains times.seconds (second_of n))

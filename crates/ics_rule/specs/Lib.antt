@@ -1,7 +1,6 @@
 pub mod Recurrence
 pub mod PeriodNumbers
 pub mod EffectiveRules
-pub mod HoursKept
 pub mod Candidates
 pub mod IsoWeeks
 pub mod Kept

@@ -3,7 +3,8 @@ ghost use Rattle.std.specs.Prelude.{◌≡◌, ℕ, ◌+◌, ◌*◌, ◌<◌, �
 ghost use Rattle.ics_fields.specs.Sets.{contains};
 ghost use Rattle.ics_fields.specs.Locals.{number, calendar_end};
 ghost use Rattle.ics_rule.specs.Next.{NoneKept, IsNextKept};
-ghost use Rattle.ics_rule.specs.HoursKept.{IsFirstTime, IsLastTime, KeepsEnds, KeepsTimes};
+ghost use Rattle.ics_rule.specs.Kept.{KeepsTimes};
+ghost use Rattle.ics_rule.specs.Inner.HoursKept.{IsFirstTime, IsLastTime, KeepsEnds};
 ghost use Rattle.ics_rule.specs.PeriodNumbers.{rules_end};
 
 use crate::cursor::Cursor;

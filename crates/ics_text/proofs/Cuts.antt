@@ -10,7 +10,7 @@ use Rattle.std.proofs.lemmas.List.Elements.{All-from_get_or}
 use Rattle.std.proofs.lemmas.List.Sums.{list_all-from_AllPass}
 use Rattle.ics_text.specs.Bytes.{begins}
 use Rattle.ics_text.specs.Unfolded.{physical_lines, onto_first}
-use Rattle.ics_text.specs.Reading.{without_cr}
+use Rattle.ics_text.specs.Inner.Reading.{without_cr}
 
 -- a CR at the end is left off
 pub without_cr-append : (front : List ℕ) → without_cr (front ++ 13 ∷ []) ≡ front

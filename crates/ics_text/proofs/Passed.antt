@@ -3,8 +3,8 @@ use Rattle.std.proofs.Common.{◌≡◌, ℕ, ◌+◌, Bool, true, List, [], ◌
 use Rattle.ics_text.specs.ContentLines.{Parts, IsContent}
 use Rattle.ics_text.specs.Unfolded.{Line, lines_from}
 use Rattle.ics_text.specs.declared.folds.FirstLine.{FirstLine}
-use Rattle.ics_text.specs.Reading.{line_of, kept}
-use Rattle.ics_text.specs.Passing.{IsUnread, IsPassed, Begins}
+use Rattle.ics_text.specs.Inner.Reading.{line_of, kept, Begins}
+use Rattle.ics_text.specs.Passing.{IsUnread, IsPassed}
 use Rattle.ics_text.proofs.Parting.{content-grammar}
 
 -- more of its value leaves a content line one of the same property

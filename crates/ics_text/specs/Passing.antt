@@ -1,9 +1,7 @@
 -- What a reader takes of the lines of a file that does not read each property (RFC 5545, section 3.1).
-use Rattle.std.specs.Prelude.{◌≡◌, ℕ, Bool, false, List, ◌∷◌, Option, Some, None}
+use Rattle.std.specs.Prelude.{◌≡◌, ℕ, Bool, false, List, ◌∷◌, Some}
 use Rattle.ics_text.specs.ContentLines.{Parts, content_of}
 use Rattle.ics_text.specs.Unfolded.{Line}
-use Rattle.ics_text.specs.Reading.{kept, line_by}
-use Rattle.ics_text.specs.declared.logical.LineBytes.{LineBytes}
 
 -- The bytes are a content line whose property is not read.
 pub record IsUnread (reads : List ℕ → Bool) (bytes : List ℕ) : Type 0 where
@@ -17,8 +15,3 @@ pub record IsPassed (reads : List ℕ → Bool) (n : ℕ) (lines behind : List L
   pub first : lines ≡ line ∷ behind
   pub number : line.number ≡ n
   pub unread : IsUnread reads line.bytes
-
--- The first line, which is left out if it is empty, and those behind it; none stands for one that is passed over.
-abbrev pub Begins : (List ℕ → Bool) → ℕ → Option LineBytes → List Line → List Line → Type 0
-Begins reads n (Some bytes) lines behind = lines ≡ kept (line_by n bytes) behind
-Begins reads n None lines behind = IsPassed reads n lines behind

@@ -1,6 +1,6 @@
 -- The lines of a file, unfolded (RFC 5545, section 3.1).
 use Rattle.std.specs.Prelude.{◌≡◌, ℕ, zero, suc, length, take, ◌+◌, ◌-◌, ◌<◌, ◌≤◌, Bool, true, false, ◌&&◌, not, ◌==◌, nat_eq, List, [], ◌∷◌, ◌++◌, drop}
-use Rattle.std.specs.Prelude.{filter, if◌then◌else◌}
+use Rattle.std.specs.Prelude.{filter, Option, Some, None, if◌then◌else◌}
 use Rattle.std.specs.List.{starts_with}
 use Rattle.ics_text.specs.Bytes.{lf, cr, is_blank, begins, is_empty}
 
@@ -70,6 +70,16 @@ unfolded file = lines_from 1 (without_mark file)
 -- the file begins with a fold, which has no line to continue
 abbrev pub begins_with_fold : List ℕ → Bool
 begins_with_fold file = begins is_blank (without_mark file)
+
+-- there is a first line, and it is folded
+abbrev pub BeginsFolded : List Line → Type 0
+BeginsFolded [] = ⊥
+BeginsFolded (line ∷ lines) = line.folded ≡ true
+
+-- a call took the first of the lines still to come, or None at the end, where none come any more
+abbrev pub Takes : List Line → Option Line → List Line → Type 0
+Takes old None new = (old ≡ []) × (new ≡ [])
+Takes old (Some line) new = old ≡ line ∷ new
 
 -- the bytes after the first LF
 abbrev pub behind_lf : List ℕ → List ℕ

@@ -1,8 +1,7 @@
 ghost use Rattle.std.specs.Prelude.{◌≡◌, ℕ, true, false, ◌+◌, ◌<◌, ◌≤◌, length, filter, IfOk, OnErr};
 ghost use Rattle.ics_text.specs.Bytes.{begins, is_blank};
-ghost use Rattle.ics_text.specs.Passing.{Begins};
-ghost use Rattle.ics_text.specs.Unfolded.{attach, is_line, lines_from};
-ghost use Rattle.ics_text.specs.Reading.{line_of, all_from, kept, line_by, BeginsFolded};
+ghost use Rattle.ics_text.specs.Unfolded.{attach, is_line, lines_from, BeginsFolded};
+ghost use Rattle.ics_text.specs.Inner.Reading.{line_of, all_from, kept, line_by, Begins};
 
 use crate::bytes::without_first;
 use crate::logical::LineBytes;

@@ -1,6 +1,5 @@
 ghost use Rattle.std.specs.Prelude.{◌≡◌, ◌↔◌, false, All, IfOk, OnErr, IsTrue, IsErr};
-ghost use Rattle.ics_text.specs.Unfolded.{StandsIn, unfolded, begins_with_fold};
-ghost use Rattle.ics_text.specs.Reading.{BeginsFolded, Takes};
+ghost use Rattle.ics_text.specs.Unfolded.{StandsIn, unfolded, begins_with_fold, BeginsFolded, Takes};
 ghost use Rattle.ics_text.specs.ReadLines.{TakesRead};
 
 use crate::fault::BadFold;

@@ -1,5 +1,5 @@
 ghost use Rattle.std.specs.Prelude.{◌≡◌, ◌↔◌, false, IfSome, IsSome};
-ghost use Rattle.ics_text.specs.Reading.{line_bytes};
+ghost use Rattle.ics_text.specs.Inner.Reading.{line_bytes};
 
 use std::marker::Model;
 
@@ -33,7 +33,7 @@ impl<'a> Model for Logical<'a> {
 
     ghost Value = { Line };
 
-    ghost use Rattle.ics_text.specs.Reading.{line_by};
+    ghost use Rattle.ics_text.specs.Inner.Reading.{line_by};
 
     ghost view = { λ a. line_by a.number a.bytes };
 }

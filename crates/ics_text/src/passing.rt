@@ -3,7 +3,7 @@ ghost use Rattle.std.specs.Prelude.{◌≡◌, ℕ, List, true, false, ◌+◌, 
 ghost use Rattle.ics_text.specs.Bytes.{begins, is_blank};
 ghost use Rattle.ics_text.specs.Passing.{IsUnread};
 ghost use Rattle.ics_text.specs.Unfolded.{attach, is_line, lines_from};
-ghost use Rattle.ics_text.specs.Reading.{line_of, all_from, kept};
+ghost use Rattle.ics_text.specs.Inner.Reading.{line_of, all_from, kept};
 
 use crate::bytes::name_len;
 use crate::content_line::content;

@@ -2,7 +2,7 @@ ghost use Rattle.std.specs.Prelude.{◌≡◌, ◌<◌, ◌∷◌, length, IfSom
 ghost use Rattle.std.specs.Option.{option_copied};
 ghost use Rattle.ics_text.specs.Bytes.{begins, is_blank};
 ghost use Rattle.ics_text.specs.Unfolded.{physical_lines, without_mark};
-ghost use Rattle.ics_text.specs.Reading.{physical_behind, without_cr};
+ghost use Rattle.ics_text.specs.Inner.Reading.{physical_behind, without_cr};
 
 use crate::bytes::is_blank;
 use bstr::ByteSlice;

@@ -22,12 +22,11 @@ use Rattle.khal_reading.specs.declared.status.Status.{Status}
 use Rattle.khal_reading.specs.declared.status.Status.TheVariants.{Faulty}
 use Rattle.khal_ports.specs.Answers.{Answer, Contents}
 use Rattle.khal_reading.specs.Asked.{Asked, AsksAll, AsksSome}
-use Rattle.khal_reading.specs.Gives.{all_wanted, error_lines, reads_of}
+use Rattle.khal_reading.specs.Gives.{all_wanted, error_lines, reads_of, IsReading}
 use Rattle.khal_ports.specs.Finds.{FindAnswer}
 use Rattle.khal_ports.specs.Growth.{TookFront}
 use Rattle.khal_list.specs.Headline.{more_line, Inputs, Lists, Outputs, Shown, ShownInPart, Shows, ShowsDays, ShowsOnce, Stops}
 use Rattle.khal_list.specs.Listed.{day_key_on, days_text_of, key_on, listing_text}
-use Rattle.khal_reading.specs.Outcomes.{IsReading}
 use Rattle.khal_ports.specs.Reads.{ReadsAll, ReadsSome}
 use Rattle.khal_reading.proofs.AskedLemmas.{all-some}
 use Rattle.khal_reading.proofs.RefusedLemmas.{lines-refused}

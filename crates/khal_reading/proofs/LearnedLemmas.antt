@@ -14,7 +14,7 @@ use Rattle.ics_calendar.specs.ZoneTables.{given_by}
 use Rattle.khal_reading.specs.declared.answered.Answered.{Answered}
 use Rattle.khal_reading.specs.Asked.{given_files, is_unread, names_of, was_unread, with_found, Asked, AsksAll}
 use Rattle.khal_ports.specs.Finds.{found_of, FindAnswer, Found}
-use Rattle.khal_reading.specs.Learned.{Keeps, Knows, Learns, LearnsSome}
+use Rattle.khal_reading.specs.Inner.Learned.{Keeps, Knows, Learns, LearnsSome}
 use Rattle.khal_reading.proofs.AskedLemmas as lemma
 use Rattle.khal_reading.proofs.AskedLemmas.{IsIn}
 

@@ -13,7 +13,7 @@ use Rattle.khal_reading.specs.declared.answered.Answered.{Answered}
 use Rattle.khal_reading.specs.Asked.{given_files, is_unread, Asked}
 use Rattle.khal_reading.specs.Gives.{FileGives, Read, ReadGives, gives_of, in_parts, unread, whole}
 use Rattle.khal_ports.specs.Finds.{FindAnswer}
-use Rattle.khal_reading.specs.Learned.{Learns, Settles, WantedCount}
+use Rattle.khal_reading.specs.Inner.Learned.{Learns, Settles, WantedCount}
 use Rattle.khal_reading.proofs.AskedLemmas.{any-kept}
 
 -- zone files that agree on the names that a file wants give it one meaning, whether a run goes on behind faults or not

@@ -14,8 +14,9 @@ use Rattle.khal_reading.specs.Asked.{given_files, is_unread, names_of, Asked, As
 use Rattle.khal_reading.specs.Errors.{lines_of}
 use Rattle.khal_reading.specs.Gives.{FileGives, Read, ReadGives, all_wanted, file_first, gives_of, gives_with, name_at, read_gives, read_wants, reads_of}
 use Rattle.khal_ports.specs.Finds.{FindAnswer}
-use Rattle.khal_reading.specs.Learned.{Keeps, Knows, WantedCount}
-use Rattle.khal_reading.specs.Outcomes.{EndsReading, IsOutcome, IsReading}
+use Rattle.khal_reading.specs.Inner.Learned.{Keeps, Knows, WantedCount}
+use Rattle.khal_reading.specs.Gives.{IsReading}
+use Rattle.khal_reading.specs.Inner.Outcomes.{EndsReading, IsOutcome}
 use Rattle.khal_ports.specs.Reads.{ReadsFrom, ReadsSome}
 use Rattle.khal_ports.specs.declared.fault.SourceFault.TheVariants.{Memory}
 use Rattle.khal_reading.proofs.AskedLemmas.{any-kept, all-some, all-then-all, all-then-some, in-back, in-front, wanted-in, IsIn}

@@ -1,5 +1,5 @@
 -- WHAT A READ GIVES: a file for the listing, and the lines that are written for it, whether a run goes on behind faults or not.
-use Rattle.std.specs.Prelude.{ℕ, Bool, true, false, List, [], ◌∷◌, map, get_or, Option, Some, None, Result, Ok, Err, if◌then◌else◌}
+use Rattle.std.specs.Prelude.{◌≡◌, ℕ, Bool, true, false, List, [], ◌∷◌, map, get_or, Option, Some, None, Result, Ok, Err, if◌then◌else◌}
 use Rattle.std.specs.List.{flat_map, list_any, zip}
 use Rattle.ics_event.specs.Event.{FileSaid}
 use Rattle.ics_calendar.specs.Files.{file_of, wanted_names}
@@ -95,3 +95,8 @@ are_some (refusal ∷ refusals) = true
 
 abbrev pub is_faulty : Bool → List Asked → Read → Bool
 is_faulty keep_going asked read = are_some (read_gives keep_going asked read).refusals
+
+-- these are the files of the reads that are listed, and the lines of those that are not, or not whole
+pub record IsReading (keep_going : Bool) (asked : List Asked) (reads : List Read) (files : List FileSaid) (errors : List ℕ) : Type 0 where
+  pub files_are : files ≡ listed_files keep_going asked reads
+  pub errors_are : errors ≡ error_lines keep_going asked reads

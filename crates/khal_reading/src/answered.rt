@@ -32,7 +32,7 @@ fn see(alloc: Global, seen: &mut BTreeSet<Text>, name: &Text) -> Result<(), Allo
 impl Answered {
     ghost use Rattle.ics_calendar.specs.ZoneTables.{given_by};
     ghost use Rattle.khal_reading.specs.Asked.{Asked, was_unread, with_found};
-    ghost use Rattle.khal_reading.specs.Learned.{Knows, Learns, LearnsSome, seen_found};
+    ghost use Rattle.khal_reading.specs.Inner.Learned.{Knows, Learns, LearnsSome, seen_found};
 
     /// Nothing so far.
     pub(crate) fn new(alloc: Global) -> Answered

@@ -1,7 +1,7 @@
 //! What is found for a name.
 ghost use Rattle.std.specs.Prelude.{◌≡◌, IfErr};
 ghost use Rattle.khal_ports.specs.Finds.{FindAnswer, found_of};
-ghost use Rattle.khal_reading.specs.Learned.{found_by};
+ghost use Rattle.khal_reading.specs.Inner.Learned.{found_by};
 
 use khal_ports::{RunFault, SourceFault, ZoneSource};
 use std::alloc::Global;

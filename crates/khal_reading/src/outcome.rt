@@ -9,8 +9,8 @@ ghost use Rattle.ics_calendar.specs.ZoneTables.{given_by};
 ghost use Rattle.khal_ports.specs.Answers.{most_bytes, Answer};
 ghost use Rattle.khal_reading.specs.Asked.{Asked};
 ghost use Rattle.khal_reading.specs.Gives.{given_by_file, in_parts, name_at};
-ghost use Rattle.khal_reading.specs.Learned.{Knows, Learns, LearnsSome, Settles, WantedCount};
-ghost use Rattle.khal_reading.specs.Outcomes.{half_gives, refusal_by, refusal_of, seen_outcome, EndsReading, IsOutcome};
+ghost use Rattle.khal_reading.specs.Inner.Learned.{Knows, Learns, LearnsSome, Settles, WantedCount};
+ghost use Rattle.khal_reading.specs.Inner.Outcomes.{half_gives, refusal_by, refusal_of, seen_outcome, EndsReading, IsOutcome};
 
 use crate::answered::Answered;
 use crate::refusal::Refusal;

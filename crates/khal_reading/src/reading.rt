@@ -4,8 +4,8 @@ ghost use Rattle.ics_event.specs.Event.{said_by};
 ghost use Rattle.khal_ports.specs.Answers.{Contents};
 ghost use Rattle.khal_reading.specs.Errors.{lines_of};
 ghost use Rattle.khal_reading.specs.Asked.{Asked, AsksAll, AsksSome};
-ghost use Rattle.khal_reading.specs.Gives.{all_wanted, file_first, reads_of};
-ghost use Rattle.khal_reading.specs.Outcomes.{seen_outcome, IsReading};
+ghost use Rattle.khal_reading.specs.Gives.{all_wanted, file_first, reads_of, IsReading};
+ghost use Rattle.khal_reading.specs.Inner.Outcomes.{seen_outcome};
 ghost use Rattle.khal_ports.specs.Reads.{ReadsAll, ReadsSome};
 
 use crate::answered::Answered;

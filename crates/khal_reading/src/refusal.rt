@@ -1,7 +1,7 @@
 //! The lines of files that are not listed.
 ghost use Rattle.std.specs.Prelude.{◌≡◌, ◌++◌, OnOk, map};
 ghost use Rattle.khal_reading.specs.Errors.{refusal_text, lines_of};
-ghost use Rattle.khal_reading.specs.Outcomes.{refusal_by, refusal_of};
+ghost use Rattle.khal_reading.specs.Inner.Outcomes.{refusal_by, refusal_of};
 
 use crate::shown::add_shown;
 use ics_calendar::{Fault, FaultKind};

@@ -1,5 +1,5 @@
 use Rattle.std.proofs.Common.{◌≡◌, ◌++◌, ◌&&◌}
-use Rattle.ics_calendar.specs.SoundParts.{is_sound, of_parts}
+use Rattle.ics_calendar.specs.Inner.SoundParts.{is_sound, of_parts}
 use Rattle.ics_calendar.proofs.file_parts.accepted.Given as goal
 
 abbrev pub invariant-loop-sound : goal.invariant-loop-sound

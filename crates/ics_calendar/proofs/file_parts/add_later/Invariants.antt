@@ -2,7 +2,7 @@ use Rattle.std.proofs.Common.{◌≡◌, take}
 use Rattle.std.specs.BTreeSet.{insert_key}
 use Rattle.std.specs.List.{flat_map, fold}
 use Rattle.ics_calendar.specs.Parts.{fault_cmp}
-use Rattle.ics_calendar.specs.SoundParts.{faults_at}
+use Rattle.ics_calendar.specs.Inner.SoundParts.{faults_at}
 use Rattle.ics_calendar.proofs.file_parts.add_later.Given as goal
 
 abbrev pub invariant-loop-sound : goal.invariant-loop-sound

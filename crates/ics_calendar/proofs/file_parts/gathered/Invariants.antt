@@ -1,6 +1,6 @@
 use Rattle.std.proofs.Common.{◌≡◌, ◌++◌}
 use Rattle.std.specs.List.{flat_map}
-use Rattle.ics_calendar.specs.SoundParts.{checks_of}
+use Rattle.ics_calendar.specs.Inner.SoundParts.{checks_of}
 use Rattle.ics_calendar.proofs.file_parts.gathered.Given as goal
 
 abbrev pub invariant-loop-one : goal.invariant-loop-one

@@ -2,9 +2,9 @@ use Rattle.std.proofs.Common.{sym, ap, ◌∙◌, subst, cond, ◌==◌, take}
 use Rattle.std.specs.List.{All}
 use Rattle.std.specs.Option.{option_or}
 use Rattle.ics_components.specs.ParsedFiles.{IsSoundCheck, IsSoundParsed}
-use Rattle.ics_calendar.specs.SoundParts.{SoundEventSeen}
+use Rattle.ics_calendar.specs.Inner.SoundParts.{SoundEventSeen}
 use Rattle.ics_calendar.specs.Settled.{first_judged}
-use Rattle.ics_calendar.specs.SoundParts.{later_of}
+use Rattle.ics_calendar.specs.Inner.SoundParts.{later_of}
 use Rattle.ics_calendar.specs.ZoneTables.{known_by}
 use Rattle.ics_calendar.proofs.PartsGiven.{later-more}
 use Rattle.ics_calendar.proofs.file_parts.later_faults.Goals as goal

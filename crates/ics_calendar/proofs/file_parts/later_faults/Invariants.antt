@@ -1,5 +1,5 @@
 use Rattle.std.proofs.Common.{◌≡◌, ℕ, ◌<◌, get_or, length, take, None}
-use Rattle.ics_calendar.specs.SoundParts.{later_of}
+use Rattle.ics_calendar.specs.Inner.SoundParts.{later_of}
 use Rattle.ics_calendar.specs.ZoneTables.{known_by}
 use Rattle.ics_calendar.proofs.file_parts.later_faults.Given as goal
 

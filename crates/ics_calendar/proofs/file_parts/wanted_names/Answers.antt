@@ -1,6 +1,6 @@
 use Rattle.std.proofs.Common.{sym, ◌∙◌}
 use Rattle.std.proofs.lemmas.List.{append-nil}
-use Rattle.ics_calendar.specs.SoundParts.{is_sound}
+use Rattle.ics_calendar.specs.Inner.SoundParts.{is_sound}
 use Rattle.ics_calendar.specs.ZoneTables.{known_by}
 use Rattle.ics_calendar.proofs.PartsGiven.{unknown-push}
 use Rattle.ics_calendar.proofs.file_parts.wanted_names.Goals as goal

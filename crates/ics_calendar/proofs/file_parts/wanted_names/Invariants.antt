@@ -1,6 +1,6 @@
 use Rattle.std.proofs.Common.{take}
 use Rattle.ics_calendar.specs.Settled.{all_unknown}
-use Rattle.ics_calendar.specs.SoundParts.{checks_of, is_sound, of_parts}
+use Rattle.ics_calendar.specs.Inner.SoundParts.{checks_of, is_sound, of_parts}
 use Rattle.ics_calendar.specs.Inner.UnknownNames.{AreNames}
 use Rattle.ics_calendar.specs.ZoneTables.{known_by}
 use Rattle.ics_calendar.proofs.file_parts.wanted_names.Given as goal

@@ -1,5 +1,5 @@
 use Rattle.std.proofs.Common.{◌≡◌, ◌++◌}
-use Rattle.ics_calendar.specs.SoundParts.{zones_for}
+use Rattle.ics_calendar.specs.Inner.SoundParts.{zones_for}
 use Rattle.ics_calendar.proofs.file_parts.zones_for.Given as goal
 
 abbrev pub invariant-loop-zone : goal.invariant-loop-zone

@@ -1,5 +1,5 @@
 use Rattle.std.proofs.Common.{sym, ap, ◌∙◌, ◌≡◌, subst, IfOk}
-use Rattle.ics_calendar.specs.SoundParts.{PartsSaid}
+use Rattle.ics_calendar.specs.Inner.SoundParts.{PartsSaid}
 use Rattle.ics_calendar.specs.ZoneTables.{given_by}
 use Rattle.ics_calendar.proofs.Partly.{gives-parts}
 use Rattle.ics_calendar.proofs.partial_file.given_in_parts.Goals as goal

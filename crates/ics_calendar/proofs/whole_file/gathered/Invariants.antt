@@ -1,7 +1,7 @@
 use Rattle.std.proofs.Common.{◌≡◌, ◌++◌}
 use Rattle.std.specs.List.{flat_map}
 use Rattle.ics_calendar.specs.Inner.PartsRead.{sound_in}
-use Rattle.ics_calendar.specs.SoundParts.{checks_of}
+use Rattle.ics_calendar.specs.Inner.SoundParts.{checks_of}
 use Rattle.ics_calendar.proofs.whole_file.gathered.Given as goal
 
 abbrev pub invariant-loop-event : goal.invariant-loop-event

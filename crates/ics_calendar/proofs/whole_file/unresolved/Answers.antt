@@ -4,7 +4,7 @@ use Rattle.ics_components.specs.ParsedFiles.{IsSoundParsed}
 use Rattle.ics_calendar.specs.Files.{UnresolvedSaid}
 use Rattle.ics_calendar.specs.Inner.PartsRead.{sound_in, whole_of}
 use Rattle.ics_calendar.specs.Settled.{known_in, unresolved_by}
-use Rattle.ics_calendar.specs.SoundParts.{gathered_of}
+use Rattle.ics_calendar.specs.Inner.SoundParts.{gathered_of}
 use Rattle.ics_calendar.specs.UnresolvedFiles.{unresolved_said}
 use Rattle.std.specs.List.{flat_map}
 use Rattle.ics_calendar.proofs.OnePass.{whole-sound}

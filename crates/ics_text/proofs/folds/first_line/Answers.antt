@@ -1,6 +1,6 @@
 use Rattle.std.proofs.Common.{◌≡◌, ℕ, ◌+◌, List, false, ap, ◌∙◌, sym, filter}
 use Rattle.ics_text.specs.Unfolded.{attach, is_line, lines_from}
-use Rattle.ics_text.specs.Reading.{line_of, all_from}
+use Rattle.ics_text.specs.Inner.Reading.{line_of, all_from}
 use Rattle.ics_text.proofs.Joins.{all_from-front}
 use Rattle.ics_text.proofs.Passed.{begins-there}
 use Rattle.ics_text.proofs.folds.first_line.Goals as goal

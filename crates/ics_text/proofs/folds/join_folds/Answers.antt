@@ -1,7 +1,7 @@
 use Rattle.std.proofs.Common.{◌≡◌, ℕ, ◌+◌, ◌*◌, ◌<◌, ◌++◌, true, length, drop, arith, sym, ap, ◌∙◌, add_assoc, length-drop, subst, filter, option_copied}
 use Rattle.std.proofs.lemmas.Grind.{common_steps}
-use Rattle.ics_text.specs.Unfolded.{is_line, attach, physical_lines}
-use Rattle.ics_text.specs.Reading.{line_of, all_from, BeginsFolded, physical_behind}
+use Rattle.ics_text.specs.Unfolded.{is_line, attach, physical_lines, BeginsFolded}
+use Rattle.ics_text.specs.Inner.Reading.{line_of, all_from, physical_behind}
 use Rattle.ics_text.proofs.Joins.{grown, GoOn, grown-more, folded-some, on_err, grown-folded}
 use Rattle.ics_text.proofs.folds.join_folds.Goals as goal
 

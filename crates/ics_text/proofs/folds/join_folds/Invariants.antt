@@ -1,6 +1,6 @@
 use Rattle.std.proofs.Common.{◌≡◌, ◌+◌, ◌≤◌, ℕ, false, length, filter}
 use Rattle.ics_text.specs.Unfolded.{attach, is_line}
-use Rattle.ics_text.specs.Reading.{line_of, all_from}
+use Rattle.ics_text.specs.Inner.Reading.{line_of, all_from}
 use Rattle.ics_text.proofs.Joins.{grown}
 use Rattle.ics_text.proofs.folds.join_folds.Given as goal
 

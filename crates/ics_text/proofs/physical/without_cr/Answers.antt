@@ -1,7 +1,7 @@
 use Rattle.std.proofs.Common.{◌≡◌, ◌≢◌, ℕ, List, [], ◌∷◌, ◌++◌, ap, sym, ◌∙◌, Option, Some, None, Bor, MatchOption, unwrap_or}
 use Rattle.std.proofs.lemmas.Bool.Decides.{Decides-eqb}
 use Rattle.std.proofs.lemmas.Slice.Eq.{strip_suffix_is}
-use Rattle.ics_text.specs.Reading.{without_cr}
+use Rattle.ics_text.specs.Inner.Reading.{without_cr}
 use Rattle.ics_text.proofs.Cuts.{without_cr-append, without_cr-keeps}
 use Rattle.ics_text.proofs.physical.without_cr.Goals as goal
 

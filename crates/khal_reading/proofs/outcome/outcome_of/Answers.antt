@@ -1,8 +1,8 @@
 use Rattle.std.proofs.Common.{Some, subst, sym}
 use Rattle.std.proofs.lemmas.Result.{IfOk-weaker}
 use Rattle.khal_reading.specs.Gives.{FileGives, given_by_file}
-use Rattle.khal_reading.specs.Learned.{Settles, WantedCount}
-use Rattle.khal_reading.specs.Outcomes.{seen_outcome}
+use Rattle.khal_reading.specs.Inner.Learned.{Settles, WantedCount}
+use Rattle.khal_reading.specs.Inner.Outcomes.{seen_outcome}
 use Rattle.khal_reading.proofs.LearnedLemmas.{learns-nothing}
 use Rattle.khal_reading.proofs.OutcomeLemmas.{all-count}
 use Rattle.khal_ports.proofs.Written.{on_err}

@@ -9,8 +9,8 @@ use Rattle.khal_reading.specs.declared.answered.Answered.{Answered}
 use Rattle.khal_reading.specs.declared.outcome.Outcome.{Outcome}
 use Rattle.khal_reading.specs.Asked.{Asked}
 use Rattle.khal_reading.specs.Gives.{FileGives}
-use Rattle.khal_reading.specs.Learned.{Knows, Learns, Settles, WantedCount}
-use Rattle.khal_reading.specs.Outcomes.{half_gives, seen_outcome}
+use Rattle.khal_reading.specs.Inner.Learned.{Knows, Learns, Settles, WantedCount}
+use Rattle.khal_reading.specs.Inner.Outcomes.{half_gives, seen_outcome}
 use Rattle.khal_reading.proofs.OutcomeLemmas.{asked-settles}
 use Rattle.khal_reading.proofs.outcome.outcome_with.Goals as goal
 

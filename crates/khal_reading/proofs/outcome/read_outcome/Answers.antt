@@ -3,8 +3,8 @@ use Rattle.std.proofs.lemmas.Option.{get_or_from_slice_get}
 use Rattle.std.proofs.lemmas.Result.{IfOk-weaker, on_err_weaker}
 use Rattle.khal_ports.specs.Answers.{contents_of}
 use Rattle.khal_reading.specs.Gives.{given_by_file}
-use Rattle.khal_reading.specs.Learned.{LearnsSome, Settles}
-use Rattle.khal_reading.specs.Outcomes.{seen_outcome, EndsReading}
+use Rattle.khal_reading.specs.Inner.Learned.{LearnsSome, Settles}
+use Rattle.khal_reading.specs.Inner.Outcomes.{seen_outcome, EndsReading}
 use Rattle.khal_reading.proofs.LearnedLemmas.{learns-nothing}
 use Rattle.khal_ports.proofs.Written.{on_err}
 use Rattle.khal_reading.proofs.outcome.read_outcome.Goals as goal

@@ -1,4 +1,4 @@
-use Rattle.khal_reading.specs.Outcomes.{half_gives}
+use Rattle.khal_reading.specs.Inner.Outcomes.{half_gives}
 use Rattle.khal_reading.proofs.LearnedLemmas.{learns-nothing}
 use Rattle.khal_ports.proofs.Written.{on_err}
 use Rattle.khal_reading.proofs.outcome.wants_unread.Goals as goal

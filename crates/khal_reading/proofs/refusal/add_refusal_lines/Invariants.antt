@@ -1,6 +1,6 @@
 use Rattle.std.proofs.Common.{◌≡◌, ◌++◌, map, drop}
 use Rattle.khal_reading.specs.Errors.{lines_of}
-use Rattle.khal_reading.specs.Outcomes.{refusal_of}
+use Rattle.khal_reading.specs.Inner.Outcomes.{refusal_of}
 use Rattle.khal_reading.proofs.refusal.add_refusal_lines.Given as goal
 
 -- what is added so far, and the lines of the refusals left, are what was there and the lines of all

@@ -9,7 +9,7 @@ use Rattle.ics_components.specs.Parted.{IsSoundParted, PartedFileSeen}
 use Rattle.ics_calendar.specs.Inner.PartsRead.{AreRead, fault_read, labelled, nothing_labelled}
 use Rattle.ics_calendar.specs.Settled.{known_in}
 use Rattle.ics_calendar.specs.Inner.SharedFaults.{AreShared, needed_by}
-use Rattle.ics_calendar.specs.SoundParts.{PartsSeen, SoundEventSeen, wanted_by}
+use Rattle.ics_calendar.specs.Inner.SoundParts.{PartsSeen, SoundEventSeen, wanted_by}
 use Rattle.ics_calendar.specs.ZoneTables.{known_by}
 use Rattle.ics_calendar.proofs.Shared.{events-sound, needed-same, zones-sound}
 use Rattle.ics_calendar.proofs.file_parts.FileParts.of.Goals as goal

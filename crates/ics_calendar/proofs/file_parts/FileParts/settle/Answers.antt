@@ -4,8 +4,8 @@ use Rattle.ics_components.specs.ParsedFiles.{IsSoundParsed}
 use Rattle.ics_components.specs.Sound.{IsSoundZone}
 use Rattle.ics_calendar.specs.DeferredChecks.{with_files}
 use Rattle.ics_calendar.specs.Parts.{in_order}
-use Rattle.ics_calendar.specs.SoundParts.{PartsSeen, faults_at, given_by_parts, is_sound, later_of, listed, of_parts, said_with, wanted_by}
-use Rattle.ics_calendar.specs.SoundParts.{zones_for}
+use Rattle.ics_calendar.specs.Inner.SoundParts.{PartsSeen, faults_at, given_by_parts, is_sound, later_of, listed, of_parts, said_with, wanted_by}
+use Rattle.ics_calendar.specs.Inner.SoundParts.{zones_for}
 use Rattle.ics_calendar.specs.ZoneTables.{known_by, given_by}
 use Rattle.std.specs.List.{flat_map}
 use Rattle.std.proofs.Common.{◌∷◌, ◌++◌}

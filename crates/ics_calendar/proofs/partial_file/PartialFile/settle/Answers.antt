@@ -1,9 +1,8 @@
 use Rattle.std.proofs.Common.{sym, ap, ◌∙◌, ◌≡◌, subst, Err, IfOk}
 use Rattle.ics_event.specs.Event.{said_by}
 use Rattle.ics_calendar.specs.Files.{SaysFile, UnresolvedSaid}
-use Rattle.ics_calendar.specs.PartialFiles.{NamedFile}
-use Rattle.ics_calendar.specs.Parts.{file_gives}
-use Rattle.ics_calendar.specs.SoundParts.{PartsSaid}
+use Rattle.ics_calendar.specs.Parts.{file_gives, NamedFile}
+use Rattle.ics_calendar.specs.Inner.SoundParts.{PartsSaid}
 use Rattle.ics_calendar.specs.UnresolvedFiles.{unresolved_said}
 use Rattle.ics_calendar.specs.ZoneTables.{given_by}
 use Rattle.ics_calendar.proofs.Partly.{gives-all, gives-none, gives-parts}

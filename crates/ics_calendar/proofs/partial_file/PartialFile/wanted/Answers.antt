@@ -1,7 +1,6 @@
 use Rattle.std.proofs.Common.{sym, ap, ◌∙◌, ◌≡◌, subst, map, IfOk}
-use Rattle.ics_calendar.specs.PartialFiles.{NamedFile}
-use Rattle.ics_calendar.specs.Parts.{names_for_parts}
-use Rattle.ics_calendar.specs.SoundParts.{PartsSaid}
+use Rattle.ics_calendar.specs.Parts.{names_for_parts, NamedFile}
+use Rattle.ics_calendar.specs.Inner.SoundParts.{PartsSaid}
 use Rattle.ics_calendar.proofs.Partly.{wants-parted, wants-refused}
 use Rattle.ics_calendar.proofs.partial_file.PartialFile.wanted.Goals as goal
 

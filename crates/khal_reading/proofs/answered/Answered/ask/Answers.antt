@@ -1,4 +1,4 @@
-use Rattle.khal_reading.specs.Learned.{seen_found}
+use Rattle.khal_reading.specs.Inner.Learned.{seen_found}
 use Rattle.khal_reading.proofs.LearnedLemmas.{fails, learns-one, learns-some-one}
 use Rattle.khal_ports.proofs.Written.{on_err}
 use Rattle.khal_reading.proofs.answered.Answered.ask.Goals as goal

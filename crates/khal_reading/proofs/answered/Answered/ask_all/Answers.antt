@@ -1,6 +1,6 @@
 use Rattle.std.proofs.Common.{◌+◌, ◌++◌, ℕ, List, drop, subst}
 use Rattle.std.proofs.lemmas.List.{take-append-drop, take_more}
-use Rattle.khal_reading.specs.Learned.{LearnsSome}
+use Rattle.khal_reading.specs.Inner.Learned.{LearnsSome}
 use Rattle.khal_reading.proofs.AskedLemmas.{all-then-some, some-front}
 use Rattle.khal_reading.proofs.LearnedLemmas.{learns-then}
 use Rattle.khal_ports.proofs.Written.{on_err}

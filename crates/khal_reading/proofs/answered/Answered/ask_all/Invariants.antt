@@ -1,6 +1,6 @@
 use Rattle.std.proofs.Common.{List, take}
 use Rattle.khal_reading.specs.Asked.{Asked}
-use Rattle.khal_reading.specs.Learned.{Knows, Learns}
+use Rattle.khal_reading.specs.Inner.Learned.{Knows, Learns}
 use Rattle.khal_reading.proofs.answered.Answered.ask_all.Given as goal
 
 -- the names before are asked for

@@ -1,6 +1,6 @@
 use Rattle.std.proofs.Common.{◌≡◌, ◌∙◌, ℕ, Bool, Err, [], ap, ap₂, subst, sym}
 use Rattle.ics_calendar.specs.Files.{UnresolvedSaid}
-use Rattle.ics_calendar.specs.PartialFiles.{NamedFile}
+use Rattle.ics_calendar.specs.Parts.{NamedFile}
 use Rattle.ics_calendar.specs.UnresolvedFiles.{IsFaultOf}
 use Rattle.ics_components.specs.declared.fault.FaultKind.{FaultKind}
 use Rattle.khal_reading.specs.Gives.{FileGives, given_by_file, gives_in_parts, whole}

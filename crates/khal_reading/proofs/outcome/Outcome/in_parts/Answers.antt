@@ -3,7 +3,7 @@ use Rattle.std.proofs.lemmas.Simd.{map-map}
 use Rattle.ics_event.specs.Event.{said_by}
 use Rattle.khal_reading.specs.Errors.{Refusal}
 use Rattle.khal_reading.specs.Gives.{ReadGives, in_parts}
-use Rattle.khal_reading.specs.Outcomes.{refusal_by, refusal_of}
+use Rattle.khal_reading.specs.Inner.Outcomes.{refusal_by, refusal_of}
 use Rattle.khal_reading.proofs.outcome.Outcome.in_parts.Goals as goal
 
 pub returns : goal.returns

@@ -1,9 +1,8 @@
 -- The locals of an hour that a rule keeps.
-use Rattle.std.specs.Prelude.{◌≡◌, ℕ, ◌<◌, ◌≤◌, ◌+◌, ◌*◌, ◌/◌, true, false, ◌&&◌}
+use Rattle.std.specs.Prelude.{◌≡◌, ℕ, ◌<◌, ◌≤◌, ◌+◌, ◌*◌, true, false}
 use Rattle.ics_fields.specs.Sets.{contains, is_empty}
 use Rattle.ics_rule.specs.declared.hour.HourTimes.{HourTimes}
 use Rattle.ics_rule.specs.Recurrence.{Recurrence}
-use Rattle.ics_rule.specs.PeriodNumbers.{minute_of, second_of}
 use Rattle.ics_rule.specs.Kept.{is_kept}
 use Rattle.ics_rule.specs.Next.{IsNextKept}
 use Rattle.ics_fields.specs.Locals.{number}
@@ -28,8 +27,3 @@ pub record KeepsEnds (r : Recurrence) (hour : ℕ) (times : HourTimes) : Type 0 
   pub next : IsNextKept r (hour * 3_600) (hour * 3_600 + 3_600) (hour * 3_600 + first)
   pub inside : last < 3_600
   pub kept_last : is_kept r (hour * 3_600 + last) ≡ true
-
--- of the locals of an hour, a rule keeps those with one of some minutes and one of some seconds
-abbrev pub KeepsTimes : Recurrence → ℕ → HourTimes → Type 0
-KeepsTimes r hour times =
-    (n : ℕ) → n / 3_600 ≡ hour → is_kept r n ≡ (contains times.minutes (minute_of n) && contains times.seconds (second_of n))

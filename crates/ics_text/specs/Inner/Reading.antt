@@ -1,6 +1,7 @@
 -- What reading a file line by line gives, and a line in memory (RFC 5545, section 3.1).
 use Rattle.std.specs.Prelude.{◌≡◌, ℕ, Bool, true, false, ◌==◌, List, [], ◌∷◌, Option, Some, None, if◌then◌else◌}
 use Rattle.ics_text.specs.Bytes.{cr}
+use Rattle.ics_text.specs.Passing.{IsPassed}
 use Rattle.ics_text.specs.Unfolded.{Line, physical_lines, numbered, joined, is_line}
 use Rattle.ics_text.specs.declared.logical.LineBytes.{LineBytes}
 use Rattle.ics_text.specs.declared.logical.LineBytes.TheVariants.{Borrowed, Owned}
@@ -28,16 +29,6 @@ all_from n bytes = joined (numbered n (physical_lines bytes))
 abbrev pub kept : Line → List Line → List Line
 kept line lines = if is_line line then line ∷ lines else lines
 
--- there is a first line, and it is folded
-abbrev pub BeginsFolded : List Line → Type 0
-BeginsFolded [] = ⊥
-BeginsFolded (line ∷ lines) = line.folded ≡ true
-
--- a call took the first of the lines still to come, or None at the end, where none come any more
-abbrev pub Takes : List Line → Option Line → List Line → Type 0
-Takes old None new = (old ≡ []) × (new ≡ [])
-Takes old (Some line) new = old ≡ line ∷ new
-
 -- a line in memory: borrowed from the file unless it was folded
 abbrev pub line_bytes : LineBytes → List ℕ
 line_bytes (Borrowed bytes) = bytes.now
@@ -49,3 +40,8 @@ is_owned (Owned bytes) = true
 
 abbrev pub line_by : ℕ → LineBytes → Line
 line_by n bytes = line_of n (line_bytes bytes) (is_owned bytes)
+
+-- The first line, which is left out if it is empty, and those behind it; none stands for one that is passed over.
+abbrev pub Begins : (List ℕ → Bool) → ℕ → Option LineBytes → List Line → List Line → Type 0
+Begins reads n (Some bytes) lines behind = lines ≡ kept (line_by n bytes) behind
+Begins reads n None lines behind = IsPassed reads n lines behind

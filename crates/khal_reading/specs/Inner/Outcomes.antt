@@ -1,7 +1,7 @@
 -- What the code keeps of a read.
 use Rattle.std.specs.Prelude.{◌≡◌, ℕ, Bool, List, [], ◌∷◌, map, Option, Some, None, Result, Ok, Err}
 use Rattle.std.specs.Option.{option_map}
-use Rattle.ics_event.specs.Event.{FileSaid, said_by}
+use Rattle.ics_event.specs.Event.{said_by}
 use Rattle.ics_components.specs.declared.fault.Fault.{Fault}
 use Rattle.ics_calendar.specs.UnresolvedFiles.{unresolved_said}
 use Rattle.khal_reading.specs.declared.outcome.Outcome.{Outcome}
@@ -14,9 +14,9 @@ use Rattle.khal_ports.specs.declared.fault.SourceFault.TheVariants.{Memory}
 use Rattle.khal_ports.specs.Answers.{Answer, Contents, contents_of}
 use Rattle.khal_reading.specs.Asked.{Asked}
 use Rattle.khal_reading.specs.Errors.{Refusal}
-use Rattle.khal_reading.specs.Gives.{FileGives, Read, ReadGives, error_lines, gives_in_parts, gives_of, listed_files, read_wants, whole}
+use Rattle.khal_reading.specs.Gives.{FileGives, ReadGives, gives_in_parts, gives_of, read_wants, whole}
 use Rattle.khal_ports.specs.Finds.{FindAnswer}
-use Rattle.khal_reading.specs.Learned.{Knows, LearnsSome, Settles}
+use Rattle.khal_reading.specs.Inner.Learned.{Knows, LearnsSome, Settles}
 
 abbrev pub refusal_of : code.Refusal → Refusal
 refusal_of (At line kind) = Some (record { line = line; kind = kind })
@@ -49,8 +49,3 @@ pub data EndsReading {Z : Type 0} (finds : Z → List ℕ → FindAnswer → Z �
   AfterRead : (given : Contents) → contents_of answer ≡ Some given
       → ((asked : List Asked) → Knows asked known → LearnsSome finds asked (read_wants keep_going (name, given)) before after) →
       EndsReading finds keep_going name answer before after known
-
--- these are the files of the reads that are listed, and the lines of those that are not, or not whole
-pub record IsReading (keep_going : Bool) (asked : List Asked) (reads : List Read) (files : List FileSaid) (errors : List ℕ) : Type 0 where
-  pub files_are : files ≡ listed_files keep_going asked reads
-  pub errors_are : errors ≡ error_lines keep_going asked reads

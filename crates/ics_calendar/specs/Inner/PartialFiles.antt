@@ -7,13 +7,8 @@ use Rattle.ics_calendar.specs.declared.partial_file.State.{State}
 use Rattle.ics_calendar.specs.declared.partial_file.State.TheVariants.{Whole, Parted, Refused}
 use Rattle.ics_calendar.specs.Files.{unresolved_of}
 use Rattle.ics_calendar.specs.Parts.{is_parted, parts_give, parts_want}
-use Rattle.ics_calendar.specs.SoundParts.{PartsSaid, PartsSeen, parts_said}
+use Rattle.ics_calendar.specs.Inner.SoundParts.{PartsSaid, PartsSeen, parts_said}
 use Rattle.ics_calendar.specs.UnresolvedFiles.{IsFirstOf, unresolved_said}
-
--- a file by its name and its bytes
-pub record NamedFile : Type 0 where
-  pub name : List ℕ
-  pub bytes : List ℕ
 
 -- what the parts of a file of that name want and give
 abbrev pub parts_in : List ℕ → List ℕ → PartsSaid
