@@ -44,8 +44,6 @@ use Rattle.ics_components.specs.declared.parsed_file.LineResult.{LineResult}
 use Rattle.ics_components.specs.declared.name.Name.{Name}
 use Rattle.ics_components.specs.declared.name.Name.TheVariants as name
 use Rattle.ics_components.specs.declared.observance_builder.ObservanceBuilder.{ObservanceBuilder}
-use Rattle.ics_components.specs.declared.observance_builder.ObservanceProperty.{ObservanceProperty}
-use Rattle.ics_components.specs.declared.observance_builder.ObservanceProperty.TheVariants as of_observance
 use Rattle.ics_components.specs.declared.property.Property.{Property}
 use Rattle.ics_components.specs.declared.property.Property.TheVariants as property
 use Rattle.ics_components.specs.declared.refused.Refused.{Refused}
@@ -168,25 +166,14 @@ event_note n c had = with_property (event_property n c) had
 abbrev pub event_zone : ℕ → Name → Parts → Option ZoneName
 event_zone k n c = property_zone k (event_property n c)
 
--- A PROPERTY of an observance, and of a time zone.
-abbrev pub observance_property : Name → List ℕ → ObservanceProperty
-observance_property name.Dtstart v = of_observance.Start (onset_in (stamp_of false v))
-observance_property name.OffsetFrom v = of_observance.OffsetFrom (offset_in (offset_of v))
-observance_property name.OffsetTo v = of_observance.OffsetTo (offset_in (offset_of v))
-observance_property name.Rrule v = of_observance.Rule (daily_in (rule_of v))
-observance_property name.Rdate v = of_observance.Rdates (locals_of v)
-observance_property _ v = of_observance.Other
-
-abbrev pub with_observed : ObservanceProperty → ObservanceBuilder → ObservanceBuilder
-with_observed (of_observance.Start local) had = record had { start = option_or had.start (Some local) }
-with_observed (of_observance.OffsetFrom offset) had = record had { from = option_or had.from (Some offset) }
-with_observed (of_observance.OffsetTo offset) had = record had { to = option_or had.to (Some offset) }
-with_observed (of_observance.Rule rule) had = record had { rule = option_or had.rule (Some rule) }
-with_observed (of_observance.Rdates locals) had = record had { rdates = had.rdates ++ locals }
-with_observed of_observance.Other had = had
-
+-- WHAT IS COLLECTED with a line more of an observance, and of a time zone.
 abbrev pub observance_note : Name → Parts → ObservanceBuilder → ObservanceBuilder
-observance_note n c had = with_observed (observance_property n c.value) had
+observance_note name.Dtstart c had = record had { start = option_or had.start (Some (onset_in (stamp_of false c.value))) }
+observance_note name.OffsetFrom c had = record had { from = option_or had.from (Some (offset_in (offset_of c.value))) }
+observance_note name.OffsetTo c had = record had { to = option_or had.to (Some (offset_in (offset_of c.value))) }
+observance_note name.Rrule c had = record had { rule = option_or had.rule (Some (daily_in (rule_of c.value))) }
+observance_note name.Rdate c had = record had { rdates = had.rdates ++ locals_of c.value }
+observance_note _ c had = had
 
 abbrev pub zone_note : Name → Parts → ZoneBuilder → ZoneBuilder
 zone_note name.Tzid c had = record had { name = option_or had.name (Some (text_of c.value)) }

@@ -1,14 +1,12 @@
 //! An observance that is being built of its lines (RFC 5545, section 3.6.5).
-ghost use Rattle.std.specs.Prelude.{◌≡◌, [], Option, None, Some, false, true, IfOk};
+ghost use Rattle.std.specs.Prelude.{◌≡◌, [], None, Some, is_some, false, true, if◌then◌else◌};
+ghost use Rattle.std.specs.Option.{option_or};
 ghost use Rattle.ics_components.specs.Builders.{observance_of};
-ghost use Rattle.ics_components.specs.Faults.{observance_reading};
-ghost use Rattle.ics_components.specs.Lines.{Gives, Keeps, Notes, is_mark, line_fault, end_fault, unfit, observance_has, observance_property};
-ghost use Rattle.ics_components.specs.Lines.{with_observed, observance_note, joined, line_result};
+ghost use Rattle.ics_components.specs.Lines.{Keeps, Notes, is_mark, line_fault, end_fault, observance_note, joined, line_result};
 ghost use Rattle.ics_components.specs.declared.builder.Builder.TheVariants as builder;
 ghost use Rattle.ics_components.specs.declared.parsed_file.ClosedComponent.TheVariants.{Nothing};
 
 use crate::builder::Builder;
-use crate::event_fields::keep_first;
 use crate::fault::FaultKind;
 use crate::listed::Listed;
 use crate::name::Name;
@@ -19,7 +17,7 @@ use crate::rule_value::daily_in;
 use crate::time::local;
 use ics_text::Content;
 use ics_values::{KeptRule, Local, Observance, read_offset};
-use std::alloc::{AllocError, Global};
+use std::alloc::Global;
 
 /// The value of each property that an observance has once, and the values of all its RDATEs.
 #[derive(Drop)]
@@ -31,32 +29,16 @@ pub struct ObservanceBuilder {
     pub rdates: Listed<Local>,
 }
 
-/// What a line of an observance says, if an observance takes its value.
-#[derive(Drop)]
-pub enum ObservanceProperty {
-    Start(Local),
-    OffsetFrom(i32),
-    OffsetTo(i32),
-    Rule(KeptRule),
-    Rdates(Listed<Local>),
-    /// One that is not read.
-    Other,
-}
-
-impl ObservanceProperty {
-    /// What a line says, or the least fault of its value. A TZID beside it is disregarded.
-    fn read(alloc: Global, name: Name, value: &[u8]) -> Result<ObservanceProperty, Refused>
-        ensures { Gives result (unfit (observance_reading name value.now)) (observance_property name value.now) }
-    {
-        match name {
-            Name::Dtstart => Ok(ObservanceProperty::Start(local(value)?)),
-            Name::OffsetFrom => Ok(ObservanceProperty::OffsetFrom(read_offset(value)?)),
-            Name::OffsetTo => Ok(ObservanceProperty::OffsetTo(read_offset(value)?)),
-            Name::Rrule => Ok(ObservanceProperty::Rule(daily_in(alloc, value)?)),
-            Name::Rdate => Ok(ObservanceProperty::Rdates(read_locals(alloc, value)?)),
-            _ => Ok(ObservanceProperty::Other),
-        }
+/// Keeps a value that stands only once, or answers the fault of one that stands before.
+fn keep_once<T: Drop>(value: T, kept: &mut Option<T>, again: FaultKind) -> Result<(), Refused>
+    ensures { Keeps result kept.new (if is_some kept.old then Some again else None) (option_or kept.old (Some value)) }
+{
+    if kept.is_some() {
+        drop(value);
+        return Err(Refused::Fault(again));
     }
+    *kept = Some(value);
+    Ok(())
 }
 
 impl ObservanceBuilder {
@@ -75,63 +57,22 @@ impl ObservanceBuilder {
         }
     }
 
-    /// Whether a property of that name stands before, of those that stand only once.
-    fn has(&self, name: Name) -> bool
-        ensures { result ≡ observance_has self.now name }
-    {
-        match name {
-            Name::Dtstart => self.start.is_some(),
-            Name::OffsetFrom => self.from.is_some(),
-            Name::OffsetTo => self.to.is_some(),
-            Name::Rrule => self.rule.is_some(),
-            _ => false,
-        }
-    }
-
-    /// Judges a line more: what its property says, or the least fault on the line.
-    #[tactic(auto, unfolding(crate::specs::Lines::least_fault))]
-    fn property(
-        &self,
-        alloc: Global,
-        name: Name,
-        content: &Content<'_>,
-    ) -> Result<ObservanceProperty, Refused>
-        requires { is_mark name ≡ false }
-        ensures { Gives result (line_fault name content.now (builder.Observance self.now)) (observance_property name content.now.value) }
-    {
-        let property = ObservanceProperty::read(alloc, name, content.value())?;
-        if !self.has(name) {
-            return Ok(property);
-        }
-        drop(property);
-        Err(Refused::Fault(match name {
-            Name::Rrule => FaultKind::ZoneRule,
-            _ => FaultKind::ObservanceField,
-        }))
-    }
-
-    /// Keeps what a property says.
-    fn keep(&mut self, property: ObservanceProperty) -> Result<(), AllocError>
-        ensures { IfOk result (λ _. self.new ≡ with_observed property self.old) }
-    {
-        match property {
-            ObservanceProperty::Start(local) => keep_first(&mut self.start, local),
-            ObservanceProperty::OffsetFrom(offset) => keep_first(&mut self.from, offset),
-            ObservanceProperty::OffsetTo(offset) => keep_first(&mut self.to, offset),
-            ObservanceProperty::Rule(rule) => keep_first(&mut self.rule, rule),
-            ObservanceProperty::Rdates(more) => self.rdates.append(more)?,
-            ObservanceProperty::Other => {}
-        }
-        Ok(())
-    }
-
-    /// One line more of an observance.
+    /// One line more of an observance. A TZID beside a value is disregarded.
+    #[tactic(auto, using(crate::proofs::Judgements::observance_line))]
     pub fn line(&mut self, alloc: Global, name: Name, content: &Content<'_>) -> Result<(), Refused>
         requires { is_mark name ≡ false }
         ensures { Keeps result self.new (line_fault name content.now (builder.Observance self.old)) (observance_note name content.now self.old) }
     {
-        let property = self.property(alloc, name, content)?;
-        self.keep(property)?;
+        let value = content.value();
+        let again = FaultKind::ObservanceField;
+        match name {
+            Name::Dtstart => keep_once(local(value)?, &mut self.start, again)?,
+            Name::OffsetFrom => keep_once(read_offset(value)?, &mut self.from, again)?,
+            Name::OffsetTo => keep_once(read_offset(value)?, &mut self.to, again)?,
+            Name::Rrule => keep_once(daily_in(alloc, value)?, &mut self.rule, FaultKind::ZoneRule)?,
+            Name::Rdate => self.rdates.append(read_locals(alloc, value)?)?,
+            _ => {}
+        }
         Ok(())
     }
 

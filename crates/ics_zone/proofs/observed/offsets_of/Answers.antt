@@ -11,9 +11,9 @@ use Rattle.ics_zone.proofs.observed.offsets_of.Goals as goal
 
 pub loop-observance-preserved : goal.loop-observance-preserved
 loop-observance-preserved c =
-    let to : SFits w32 c.observance-item.result.offset_to = search rules in
-    let from : SFits w32 c.observance-item.result.offset_from = search rules in
-    both_more c.args.observances.now c.loop-observance-test.true c.observance-item.is
+    let to : SFits w32 c.observance.inside.offset_to = search rules in
+    let from : SFits w32 c.observance.inside.offset_from = search rules in
+    both_more c.args.observances.now c.loop-observance-test.true (rw (← c.observance.view_is) at c.observance-item.is)
     (simp to_z-of_z at c.in_ok-push.ensures.items) (simp to_z-of_z at c.in_ok-push-2.ensures.items) c.loop-observance.invariant
 
 -- sorted, without those that stand twice, and turned round they are the same offsets
