@@ -7,7 +7,7 @@ ghost use Rattle.ics_components.specs.Observances.{daily_in};
 
 use crate::fault::FaultKind;
 use crate::refused::Refused;
-use ics_values::{Frequency, KeptRule, read_rule};
+use ics_values::{KeptRule, read_rule};
 use std::alloc::Global;
 
 /// The rule that the value of an RRULE says.
@@ -23,10 +23,7 @@ pub fn daily_in(alloc: Global, value: &[u8]) -> Result<KeptRule, Refused>
     ensures { Gives result (unfit (Rule (rule_of value.now))) (daily_in (rule_of value.now)) }
 {
     let parts = read_rule(value)?;
-    if matches!(
-        parts.frequency,
-        Frequency::Secondly | Frequency::Minutely | Frequency::Hourly
-    ) {
+    if parts.frequency.is_finer_than_daily() {
         return Err(Refused::Fault(FaultKind::ZoneRule));
     }
     Ok(KeptRule::with_value(alloc, parts, value)?)

@@ -21,7 +21,7 @@ use crate::table::{next_of, onset_of, table_of};
 use crate::walk::{Told, gap_at_end, step, walk_to};
 use crate::zone_fault::ZoneFault;
 use crate::zone_observances::ZoneObservances;
-use ics_fields::{Frequency, Local, Moment};
+use ics_fields::{Local, Moment};
 use ics_values::Observance;
 use std::alloc::{AllocError, Global};
 use std::marker::Model;
@@ -738,9 +738,6 @@ fn is_finer_than_daily(observance: &Observance) -> bool
 {
     match &observance.rule {
         None => false,
-        Some(rule) => matches!(
-            rule.parts().frequency,
-            Frequency::Secondly | Frequency::Minutely | Frequency::Hourly
-        ),
+        Some(rule) => rule.parts().frequency.is_finer_than_daily(),
     }
 }
