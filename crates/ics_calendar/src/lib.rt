@@ -11,7 +11,6 @@ mod partial_file;
 mod read;
 mod rising;
 mod shared_faults;
-mod shared_zone;
 mod shared_zones;
 mod unknown_zones;
 mod unresolved_file;

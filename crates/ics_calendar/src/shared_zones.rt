@@ -3,10 +3,9 @@ ghost use Rattle.std.specs.Prelude.{◌≡◌, IfOk, IfSome};
 ghost use Rattle.ics_zone.specs.ZoneSaid.{ZoneSaid, zone_said};
 ghost use Rattle.ics_components.specs.Sound.{IsSoundZone};
 
-use crate::shared_zone::SharedZone;
 use crate::zone::zone_of;
-use ics_components::{Listed, are_same, copied_observances};
-use ics_values::{Moment, Observance};
+use ics_components::{Listed, copied_observances};
+use ics_values::{Moment, Observance, are_same_observances};
 use ics_zone::Zone;
 use std::alloc::{AllocError, Global};
 
@@ -29,7 +28,7 @@ pub struct SharedZones {
     /// How many are looked for.
     most: usize,
     seen: Vec<Listed<Observance>>,
-    shared: Vec<SharedZone>,
+    shared: Vec<Zone>,
 }
 
 impl SharedZones {
@@ -59,9 +58,9 @@ impl SharedZones {
     fn find(&self, ended: &Listed<Observance>) -> Result<Option<Zone>, AllocError>
         ensures { IfOk result (λ found. IfSome found (λ zone. zone_said zone ≡ ZoneSaid.ByObservances ended.now)) }
     {
-        for shared in &self.shared {
-            if let Some(zone) = shared.with(ended)? {
-                return Ok(Some(zone));
+        for zone in &self.shared {
+            if zone.has(&ended.values) {
+                return Ok(Some(zone.share()?));
             }
         }
         Ok(None)
@@ -69,7 +68,9 @@ impl SharedZones {
 
     /// Whether a time zone with these observances was made.
     fn has_seen(&self, ended: &Listed<Observance>) -> bool {
-        self.seen.iter().any(|seen| are_same(seen, ended))
+        self.seen
+            .iter()
+            .any(|seen| are_same_observances(&seen.values, &ended.values))
     }
 
     /// Prepares a zone, before it is shared.
@@ -87,13 +88,9 @@ impl SharedZones {
         requires { IsSoundZone ended }
         ensures { IfOk result (λ zone. zone_said zone ≡ ZoneSaid.ByObservances ended) }
     {
-        let observances = copied_observances(alloc, &ended)?;
         let mut zone = zone_of(alloc, ended)?;
         self.prepare(&mut zone);
-        self.shared.push(SharedZone {
-            observances,
-            zone: zone.share()?,
-        })?;
+        self.shared.push(zone.share()?)?;
         Ok(zone)
     }
 

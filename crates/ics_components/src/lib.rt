@@ -36,7 +36,7 @@ pub use event_fields::EventFields;
 pub use fault::{Fault, FaultKind, FileFault};
 pub use first_round::parse_file;
 pub use listed::Listed;
-pub use observances::{are_same, copied_observances};
+pub use observances::copied_observances;
 pub use parsed_file::{CalendarEvent, CalendarZone, LineCheck, ParsedFile};
 pub use parted::{PartedComponent, PartedFile, earlier};
 pub use parts_round::parse_parts;

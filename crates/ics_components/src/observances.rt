@@ -1,5 +1,5 @@
 //! The observances of a time zone (RFC 5545, section 3.6.5).
-ghost use Rattle.std.specs.Prelude.{◌≡◌, false, true, IfOk};
+ghost use Rattle.std.specs.Prelude.{◌≡◌, false, IfOk};
 ghost use Rattle.ics_components.specs.DateValues.{values_of};
 ghost use Rattle.ics_components.specs.declared.date_values.Listing.TheVariants.{Rdate};
 ghost use Rattle.ics_components.specs.Faults as reading;
@@ -43,19 +43,4 @@ pub fn copied_observances(
         values.push(observance.copied(alloc)?)?;
     }
     Ok(Listed { values })
-}
-
-/// Whether these observances are the same. The answer may be no of rules that are the same in other words.
-pub fn are_same(observances: &Listed<Observance>, others: &Listed<Observance>) -> bool
-    ensures { result ≡ true → observances.now ≡ others.now }
-{
-    if observances.values.len() != others.values.len() {
-        return false;
-    }
-    for k in 0..observances.values.len() {
-        if !observances.values[k].is_same(&others.values[k]) {
-            return false;
-        }
-    }
-    true
 }

@@ -31,7 +31,7 @@ pub use ics_fields::{
 pub use integer::{IntegerFault, read_integer};
 pub use kept_rule::KeptRule;
 pub use laws::{dates_of_the_calendar, escapes_undone, times_of_a_day};
-pub use observance::Observance;
+pub use observance::{Observance, are_same_observances};
 pub use offset::{BadOffset, read_offset};
 pub use part_name::is_word;
 pub use period::{Period, PeriodEnd, PeriodFault, read_period};

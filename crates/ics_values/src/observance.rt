@@ -49,8 +49,8 @@ impl Observance {
         })
     }
 
-    /// Whether another is the same. The answer may be no where rules are the same in other words.
-    pub fn is_same(&self, other: &Observance) -> bool
+    /// Whether another is the same.
+    fn is_same(&self, other: &Observance) -> bool
         ensures { result ≡ true → self.now ≡ other.now }
     {
         if self.offset_from != other.offset_from || self.offset_to != other.offset_to {
@@ -60,6 +60,21 @@ impl Observance {
             && is_same_rule(&self.rule, &other.rule)
             && are_same_locals(&self.rdates, &other.rdates)
     }
+}
+
+/// Whether these observances are the same. The answer may be no of rules that are the same in other words.
+pub fn are_same_observances(observances: &[Observance], others: &[Observance]) -> bool
+    ensures { result ≡ true → observances.now ≡ others.now }
+{
+    if observances.len() != others.len() {
+        return false;
+    }
+    for k in 0..observances.len() {
+        if !observances[k].is_same(&others[k]) {
+            return false;
+        }
+    }
+    true
 }
 
 /// Whether two locals are the same.

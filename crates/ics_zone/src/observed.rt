@@ -22,7 +22,7 @@ use crate::walk::{Told, gap_at_end, step, walk_to};
 use crate::zone_fault::ZoneFault;
 use crate::zone_observances::ZoneObservances;
 use ics_fields::{Local, Moment};
-use ics_values::Observance;
+use ics_values::{Observance, are_same_observances};
 use std::alloc::{AllocError, Global};
 use std::marker::Model;
 
@@ -131,6 +131,13 @@ impl Observed {
             offsets,
             held: Vec::new(alloc),
         })
+    }
+
+    /// Whether it is the zone of these observances. The answer may be no of rules that are the same in other words.
+    pub fn has(&self, observances: &[Observance]) -> bool
+        ensures { result ≡ true → self.now.said.items ≡ observances.now }
+    {
+        are_same_observances(&self.observances.said, observances)
     }
 
     /// Makes answers near an instant faster and changes none: the zone answers at every instant, before this call and after it. It holds

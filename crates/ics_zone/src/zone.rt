@@ -1,5 +1,5 @@
 //! Time zones: those of VTIMEZONEs, and those of zone files.
-ghost use Rattle.std.specs.Prelude.{◌≡◌, ◌↔◌, ◌<◌, length, [], Err, IsTrue, Ok, IfOk, None};
+ghost use Rattle.std.specs.Prelude.{◌≡◌, ◌↔◌, ◌<◌, length, [], Err, IsTrue, Ok, IfOk, None, true};
 ghost use Rattle.std.specs.List.{All, list_any};
 ghost use Rattle.jiff_core.specs.declared.error.TzifFault.{TzifFault};
 ghost use Rattle.jiff_tz.specs.TzifReader.{read_tzif};
@@ -91,6 +91,16 @@ impl Zone {
         Ok(Zone {
             kind: ZoneKind::ByJiff(JiffZone::of_file(file)?),
         })
+    }
+
+    /// Whether it is the zone of these observances. The answer may be no of rules that are the same in other words.
+    pub fn has(&self, observances: &[Observance]) -> bool
+        ensures { result ≡ true → zone_said self.now ≡ ZoneSaid.ByObservances observances.now }
+    {
+        match &self.kind {
+            ZoneKind::ByObservances(observed) => observed.get().has(observances),
+            ZoneKind::ByJiff(_) => false,
+        }
     }
 
     /// The same zone, in the same memory.

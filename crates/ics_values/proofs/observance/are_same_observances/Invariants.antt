@@ -1,5 +1,5 @@
 use Rattle.std.proofs.Common.{◌≡◌, take}
-use Rattle.ics_components.proofs.observances.are_same.Given as goal
+use Rattle.ics_values.proofs.observance.are_same_observances.Given as goal
 
 abbrev pub invariant-loop-k : goal.invariant-loop-k
 invariant-loop-k l = take l.k l.observances ≡ take l.k l.others
