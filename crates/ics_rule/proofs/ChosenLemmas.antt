@@ -33,7 +33,7 @@ pub let_in : (q : EffectiveRule) (start number n : ℕ) → is_stepped (period_i
     is_candidate_in q start n ≡ is_let_in q number n
 let_in q start number n step e = grind (arith, eq-eqb)
 
-taken_out : (positions : WideOrdinals) (b : Bool) (p : RecurrencePeriod) (n : ℕ) → holds p n ≡ false → is_taken positions b p n ≡ false
+pub taken_out : (positions : WideOrdinals) (b : Bool) (p : RecurrencePeriod) (n : ℕ) → holds p n ≡ false → is_taken positions b p n ≡ false
 taken_out positions b p n e = grind arith
 
 taken_placed : (positions : WideOrdinals) (b : Bool) (p : RecurrencePeriod) (n : ℕ) → is_taken positions b p n ≡ placed_of positions b (holds p) calendar_end n

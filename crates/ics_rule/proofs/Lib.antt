@@ -13,6 +13,7 @@ pub mod CursorLemmas
 pub mod NextLemmas
 pub mod CountLemmas
 pub mod CountingLemmas
+pub mod QuietLemmas
 pub mod Samples
 pub mod KeptLemmas
 pub mod UntilLemmas

@@ -6,4 +6,5 @@ pub mod Searches
 pub mod Rounds
 pub mod OpenPeriods
 pub mod NearDays
+pub mod Quiet
 pub mod Runs

@@ -4,8 +4,10 @@ ghost use Rattle.ics_fields.specs.Days.{IsDayNumber, day_index};
 ghost use Rattle.ics_fields.specs.RuleParts.{IsUntil};
 ghost use Rattle.ics_rule.specs.Kept.{is_by_until};
 ghost use Rattle.ics_rule.specs.PeriodNumbers.{rules_end};
+ghost use Rattle.ics_fields.specs.Locals.{calendar_end};
 
 use crate::kind::Kind;
+use crate::never::chooses_none;
 use crate::recurrence_period::RecurrencePeriod;
 use crate::rule::Rule;
 use crate::search::Search;
@@ -13,7 +15,7 @@ use crate::step::period_of;
 use ics_fields::{Local, Until};
 
 /// 9801-01-01T00:00:00, the end of the rules.
-const RULES_END: u64 = 309_289_708_800;
+pub(crate) const RULES_END: u64 = 309_289_708_800;
 
 /// The first local after a day.
 fn after_day(day: i32) -> u64
@@ -174,6 +176,46 @@ impl Cursor {
         ensures looked { (a b : ℕ) → HasLooked _rule.now self.old a b → HasLooked _rule.now self.new a b }
     {
         self.place = self.place.max(to.number());
+    }
+
+    /// A local before which the rule keeps none from the place on, as far as the parts of the date tell and the period that was looked at last.
+    /// No period is looked at.
+    pub fn quiet(&self, rule: &Rule) -> Local
+        requires own { IsCursorOf rule.now self.now }
+        ensures none { NoneKept rule.now (place_of self.now) (number result) }
+        ensures day { IsDayNumber result.day }
+    {
+        Local::numbered(self.quiet_number(rule, rule.start.number()))
+    }
+
+    /// The number of that local.
+    fn quiet_number(&self, rule: &Rule, start: u64) -> u64
+        requires start { start ≡ number rule.now.start }
+        requires inside { start < calendar_end }
+        requires own { IsCursorIn (effective rule.now) start rule.now.parts.count self.now }
+        ensures none { NoneKept rule.now self.now.place result }
+        ensures inside { result < calendar_end }
+    {
+        if self.place <= start {
+            return start;
+        }
+        let parts = &rule.parts;
+        let stop = RULES_END.min(until_end(rule.kind, parts.until));
+        if stop <= self.place {
+            return RULES_END;
+        }
+        let search = Search {
+            parts: &rule.whole,
+            start,
+            first: period_of(&rule.whole, start),
+        };
+        if self.is_counted_out(search.parts, parts.count) {
+            return RULES_END;
+        }
+        if chooses_none(search.parts) {
+            return RULES_END;
+        }
+        self.next_possible(&search).min(RULES_END)
     }
 
     /// How many periods of the rule were looked at. They are at most those that hold a local earlier than the greatest bound so far, from the

@@ -17,6 +17,7 @@ mod open_periods;
 mod part;
 mod pass;
 mod plain;
+mod quiet;
 mod recurrence_period;
 mod rounds;
 mod rule;

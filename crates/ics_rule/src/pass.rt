@@ -95,7 +95,7 @@ fn next_open_second(parts: &EffectiveRule, n: u64) -> u64
 }
 
 /// The first local from one on that a rule may allow. The search ends at `end`.
-fn next_open(parts: &EffectiveRule, n: u64, end: u64) -> u64
+pub(crate) fn next_open(parts: &EffectiveRule, n: u64, end: u64) -> u64
     requires local { n < end }
     requires end { end ≤ rules_end }
     ensures low { n ≤ result }

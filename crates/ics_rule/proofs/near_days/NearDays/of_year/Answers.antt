@@ -1,4 +1,4 @@
-use Rattle.std.proofs.Common.{◌+◌, ◌-◌, pos, refl, sym, ap, arith}
+use Rattle.std.proofs.Common.{◌+◌, ◌-◌, pos, refl, arith}
 use Rattle.jiff_core.proofs.CalendarLemmas.{days_in_year_bounds}
 use Rattle.ics_rule.proofs.LawLemmas.{year_day_is}
 use Rattle.ics_rule.proofs.NearLemmas.{IsYearOf, year_around, are_near}

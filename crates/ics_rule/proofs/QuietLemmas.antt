@@ -1,0 +1,106 @@
+-- Where a rule chooses nothing, as far as the parts of the date tell and the period that is held.
+use Rattle.std.proofs.Common.{◌≡◌, ℕ, zero, suc, ◌+◌, ◌-◌, ◌<◌, ◌≤◌, inl, inr, Bool, true, false, Some, refl, sym, ap, ◌∙◌, arith}
+use Rattle.std.proofs.lemmas.Bool.{and_parts, and_right, cases_lt, eqb-true}
+use Rattle.jiff_core.specs.Weekday.{monday_zero}
+use Rattle.ics_fields.specs.Ordinals.{lists_none_wide}
+use Rattle.ics_fields.specs.Sets.{IsLeastFrom}
+use Rattle.ics_rule.specs.declared.effective_rule.EffectiveRule.{EffectiveRule}
+use Rattle.ics_rule.specs.declared.recurrence_period.RecurrencePeriod.{RecurrencePeriod}
+use Rattle.ics_rule.specs.PeriodNumbers.{rules_end}
+use Rattle.ics_rule.specs.Candidates.{is_stepped, period_in}
+use Rattle.ics_rule.specs.Kept.{count, is_chosen}
+use Rattle.ics_rule.specs.RecurrencePeriods.{first_local, holds, is_taken, IsPeriodOf}
+use Rattle.ics_rule.specs.Cursors.{IsCounted}
+use Rattle.ics_rule.specs.Inner.Quiet.{NoneChosen}
+use Rattle.ics_rule.specs.Inner.Searches.{is_few, NoneLetIn, NoneWanted}
+use Rattle.ics_rule.proofs.ChosenLemmas.{no_step, not_let_in, taken_out, taken_within}
+use Rattle.ics_rule.proofs.CountLemmas.{not_few}
+use Rattle.ics_rule.proofs.Counts.{count-none, count-suc}
+use Rattle.ics_rule.proofs.CursorLemmas.{within_facts, within_here}
+use Rattle.ics_rule.proofs.PeriodLemmas.{before_first, begun, period_mono}
+
+-- two ranges, one after the other
+pub joined : (q : EffectiveRule) (start : ℕ) {a c : ℕ} (b : ℕ) → NoneChosen q start a b → NoneChosen q start b c → NoneChosen q start a c
+joined q start b first second n l u = elim (cases_lt n b) [ inl early ↦ first n l early | inr late ↦ second n late u ]
+
+-- By the date: nothing is chosen before the first that is let in, nor from there on before the next step.
+module _ (q : EffectiveRule) (start : ℕ) {from opens : ℕ} (none : NoneLetIn q from opens) where
+  pub closed : NoneChosen q start from opens
+  closed n l u = not_let_in q start n (λ s. none n l u)
+
+  pub off_step : {step : ℕ} (before : ℕ) → IsLeastFrom (is_stepped (period_in q start) q.interval) (period_in q opens) step
+      → ((n : ℕ) → opens ≤ n → n < before → period_in q n < step) → NoneChosen q start from before
+  off_step before next earlier n l u = elim (cases_lt n opens) [
+    | inl early ↦ closed n l early
+    | inr late ↦ no_step q start n (next.least (period_in q n) (period_mono q.frequency (monday_zero q.week_start) opens n late) (earlier n late u))
+  ]
+
+-- By the period held.
+module _ {q : EffectiveRule} (start : ℕ) {p : RecurrencePeriod} (own : IsPeriodOf q p) where
+  abbrev taken : ℕ → Bool
+  taken = is_taken q.positions (lists_none_wide q.positions) p
+
+  taken_here : (n : ℕ) → taken n ≡ true → period_in q n ≡ p.number
+  taken_here n t = by (holds p n) refl
+    where
+      by : (b : Bool) → holds p n ≡ b → period_in q n ≡ p.number
+      by true h = eqb-true (period_in q n) p.number (and_parts _ _ (sym (own.members n) ∙ h)).0
+      by false h = let no = sym t ∙ taken_out q.positions (lists_none_wide q.positions) p n h in absurd cc
+
+  not_chosen : (n : ℕ) → period_in q n ≡ p.number → taken n ≡ false → is_chosen q start n ≡ false
+  not_chosen n here none = by (is_stepped (period_in q start) q.interval p.number) refl
+    where
+      by : (b : Bool) → is_stepped (period_in q start) q.interval p.number ≡ b → is_chosen q start n ≡ false
+      by true step = sym (within_here q start p.number n here) ∙ (sym (taken_within start own refl step n) ∙ none)
+      by false step = no_step q start n (ap (is_stepped (period_in q start) q.interval) here ∙ step)
+
+  pub held_next : {place n : ℕ} → period_in q place ≡ p.number → IsLeastFrom taken place n → NoneChosen q start place n
+  held_next {place = place} {n = n} here next m l u =
+      let low = period_mono q.frequency (monday_zero q.week_start) place m l in
+      let high = period_mono q.frequency (monday_zero q.week_start) m n (omega (arith, u)) in
+      not_chosen m (omega (arith, low, high, here, taken_here n next.passes)) (next.least m l u)
+
+  pub held_none : (place : ℕ) → period_in q place ≡ p.number → ((m : ℕ) → place ≤ m → taken m ≡ false)
+      → NoneChosen q start place (first_local q.frequency (monday_zero q.week_start) (p.number + 1))
+  held_none place here none m l u =
+      let low = period_mono q.frequency (monday_zero q.week_start) place m l in
+      let high = before_first q.frequency (monday_zero q.week_start) (p.number + 1) m u in
+      not_chosen m (omega (arith, low, high, here)) (none m l)
+
+-- what passes one test from a number on passes another: with what passes that before the number, no more pass the first
+module _ (f g : ℕ → Bool) (a : ℕ) (is : (m : ℕ) → g m ≡ true → (a ≤ m) × (f m ≡ true)) where
+  none_before : (m : ℕ) → m < a → g m ≡ false
+  none_before m l = by (g m) refl
+    where
+      by : (b : Bool) → g m ≡ b → g m ≡ false
+      by true t = let late = (is m t).0 in absurd (omega (arith, late, l))
+      by false t = t
+
+  more : (n : ℕ) → g n ≡ false → count n g ≡ count (suc n) g
+  more n e = let one = count-suc n g in grind arith
+
+  pub both_counted : (k : ℕ) → count a f + count (a + k) g ≤ count (a + k) f
+  both_counted zero = let none = count-none a g none_before in let same : a + 0 ≡ a = omega arith in rw same (omega (arith, none))
+  both_counted (suc k) =
+      let rest = both_counted k in
+      let one = is (a + k) in
+      let same : a + suc k ≡ suc (a + k) = omega arith in
+      rw same (grind (arith, count-suc (a + k) f, count-suc (a + k) g))
+
+-- Under COUNT: all that is kept is earlier than the place.
+pub counted_past : {q : EffectiveRule} {start c counted limit : ℕ} {p : RecurrencePeriod} (place : ℕ) → IsPeriodOf q p
+    → IsCounted q start c counted limit p → p.number ≤ period_in q place
+    → limit ≤ counted + count place (is_taken q.positions (lists_none_wide q.positions) p) → NoneWanted q start (Some c) place rules_end
+counted_past {q = q} {start = start} {c = c} {counted = counted} {limit = limit} {p = p} place own is late out n l u =
+    let first = first_local q.frequency (monday_zero q.week_start) p.number in
+    let low = begun q.frequency (monday_zero q.week_start) p.number place late in
+    let all = both_counted (is_chosen q start) (is_taken q.positions (lists_none_wide q.positions) p) first within (place - first) in
+    let end : first + (place - first) ≡ place = omega (arith, low) in
+    let total = rw end at all in
+    and_right (is_chosen q start n) (is_few q start c n) (not_few q start c limit is.most place n (omega (arith, total, out, is.total)) l)
+  where
+    within : (m : ℕ) → is_taken q.positions (lists_none_wide q.positions) p m ≡ true
+        → (first_local q.frequency (monday_zero q.week_start) p.number ≤ m) × (is_chosen q start m ≡ true)
+    within m t =
+        let at = within_facts q start p.number m (sym (taken_within start own refl is.step m) ∙ t) in
+        (begun q.frequency (monday_zero q.week_start) p.number m (omega (arith, at.0)), at.1)
