@@ -15,6 +15,7 @@ pub mod OccursLemmas
 pub mod OnDayLemmas
 pub mod OverrideLemmas
 pub mod QueueLemmas
+pub mod QuietLemmas
 pub mod RawLemmas
 pub mod RecurringLemmas
 pub mod RuleDayLemmas

@@ -11,6 +11,7 @@ use Rattle.ics_event.specs.declared.event.Event.{Event}
 use Rattle.ics_event.specs.Event.{Rdate}
 use Rattle.ics_series.specs.declared.listed_starts.ListedStarts.{ListedStarts}
 use Rattle.ics_series.specs.declared.rule_starts.RuleStarts.{RuleStarts}
+use Rattle.ics_series.specs.declared.series.Series.{Series}
 use Rattle.ics_series.specs.declared.start.StartSource.{StartSource}
 use Rattle.ics_series.specs.declared.start.Start.{Start}
 use Rattle.ics_series.specs.declared.window.Window.{Window}
@@ -24,7 +25,7 @@ use Rattle.ics_series.specs.Meeting.{entry_from, is_met}
 use Rattle.ics_series.specs.Merged.{cut, union, put}
 use Rattle.ics_series.specs.Rising.{IsBefore, Rises}
 use Rattle.ics_series.specs.RuleFeed.{held_in, starts_left}
-use Rattle.ics_series.specs.SeriesStarts.{first_asked, given_of, has_moment, is_wanted, listed_left, rule_asked, rule_left, wanted_by, HasOwnRule}
+use Rattle.ics_series.specs.SeriesStarts.{first_asked, first_of, given_of, has_moment, is_wanted, listed_left, rule_asked, rule_left, wanted_by, HasOwnRule}
 use Rattle.ics_series.specs.SeriesStarts.{HasRuled, HasSameRule, IsAskedNear, IsSeriesMet, IsFirstOf}
 use Rattle.ics_series.specs.Starts.{GivesStart, time_of, IsNotAfter}
 use Rattle.ics_series.specs.FileZones.{clocks_in}
@@ -275,13 +276,14 @@ module _ (clocks : Clocks) (event : Event) where
 -- The starts of a series's rule stay those of its own rule.
 module _ (zones : FileZones) (event : Event) (w : Window) where
   pub own-rule-same : (first : ℤ) (a b : Option RuleStarts) → HasSameRule a b → HasOwnRule zones event w first a → HasOwnRule zones event w first b
-  own-rule-same first None None same h = tt
+  own-rule-same first None None same h = h
   own-rule-same first (Some a) (Some b) same h = record {
     zones_are = same.zones ∙ h.zones_are;
     event_is = rw same.event h.event_is;
     window_is = same.window ∙ h.window_is;
     day = rw same.from h.day;
     late = rw same.from h.late;
+    low = rw same.from h.low;
   }
   own-rule-same first _ _ same h = absurd same
 
@@ -290,6 +292,17 @@ module _ (zones : FileZones) (event : Event) (w : Window) where
       → HasOwnRule zones event w (first_asked (clocks_in zones) w event since listed) o →
       HasOwnRule zones event w (first_asked (clocks_in zones) w event kept all) o
   own-rule-as o e f h = rw (e, ← f) h
+
+-- the series with its rule read on, where the starts that are left stay the same
+abbrev pub read : (s : Series) (rule : Option RuleStarts) → HasSameRule s.rule_starts rule → rule_left rule ≡ rule_left s.rule_starts → Series
+read s rule same left = record s {
+  rule_starts = rule;
+  known = rw left s.known;
+  ruled = ruled-same (clocks_in s.zones) s.event.now s.rule_starts rule same left
+      (ap (λ xs. given_of (clocks_in s.zones) s.window s.event.now s.since (union moment_cmp xs (listed_left s.listed))) left) s.ruled;
+  own_rule = own-rule-same s.zones s.event.now s.window (first_of (clocks_in s.zones) s.window s.event.now s.since) s.rule_starts rule same s.own_rule;
+  rising = rw left s.rising;
+}
 
 -- The starts still to come of a rule and of those that are known from the first, as one list.
 not-greater-by : (a b : Start) → int_lt b.moment a.moment ≡ false → moment_cmp a b ≡ Greater → ⊥

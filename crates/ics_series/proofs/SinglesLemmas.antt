@@ -315,13 +315,13 @@ module _ (files : List FileSaid) (display : Clock) (w : Window) (after : Option 
         let recurs : Recurs files (label_of files display g.by) =
         record { event = g.by.event; stands = placed-event files g.by g.chosen.placed; recurs = own } in
         let has = are.every (label_of files display g.by) there recurs in
-        inr (in-one e has.list more has.stands
-        ((has.listing.exact e).1 (record {
+        let own = (has.listing.exact e).1 (record {
           by = recurs;
           of = rw none at g.is.0;
           meets = g.is.1;
           later = after-come files display w after e t;
-        }))))
+        }) in
+        inr (⊎_elim (λ empty. absurd (subst (IsIn e) empty own)) (λ n. in-one e has.list more n own) has.stands))
         (cases_Bool (is_single e.event))
 
     -- masters' occurrences of one key are kept alike

@@ -15,7 +15,7 @@ use Rattle.ics_series.specs.Clocks.{Clocks, instant}
 use Rattle.ics_event.specs.Event.{stamp_seconds}
 use Rattle.ics_series.specs.Finish.{end_by, seconds_by, seconds_lasting}
 use Rattle.ics_series.specs.Found.{earlier, earliest, earliest_from, first_met, is_span_met, listed_from, start_at, start_by, IsSought, with_front}
-use Rattle.ics_series.specs.Leeway.{late_by, seconds_back}
+use Rattle.ics_series.specs.Leeway.{late_by, seconds_back, seconds_off}
 use Rattle.ics_series.specs.Listing.{IsIn}
 use Rattle.ics_series.specs.Meeting.{entry_from}
 use Rattle.ics_series.specs.Meets.{Meets}
@@ -212,6 +212,25 @@ module _ (zones : FileZones) (w : Window) (event : Event) where
           omega (arith, ints, most, met-from local met w.notstarted refl, there, same)
       by (Listed place) given g same m = let f : None ≡ Some g.0 = ap (λ rs. slice_get rs place) (sym e) ∙ g.1 in absurd cc
 
+  late-range : (rdates : List Rdate) → pos 0 ≤ℤ late_by rdates event.start.stamp event.length
+  late-range [] = late-least event.start.stamp event.length
+  late-range (rdate ∷ rdates) = omega (arith, ints)
+
+  -- no more seconds are read back than a local can be off, and some more
+  pub back-least : seconds_off event.start.stamp ≤ℤ seconds_back event
+  back-least = omega (arith, ints, late-range event.rdates)
+
+  -- what counts first is no later than the window's end
+  pub earliest-soon : (starts : List Start) → earliest (clocks_in zones) w event starts ≤ℤ w.to
+  earliest-soon starts =
+      let most = earliest-most (clocks_in zones) w event (first_met (clocks_in zones) w event) starts in
+      let first = first-soon w.notstarted in
+      omega (arith, ints, most, first, w.ordered)
+    where
+      first-soon : (b : Bool) → (if b then w.from else w.from -ℤ seconds_lasting (clocks_in zones) event) ≤ℤ w.from
+      first-soon true = omega (arith, ints)
+      first-soon false = omega (arith, ints, seconds-least zones event.start event.start.stamp event.length)
+
   -- So a local whose start is sought is no more seconds before what counts first, nor before its own instant.
   pub sought-back : (local : Local) → IsSought (clocks_in zones) event w (instant (clocks_in zones) (time_at event.start local)) →
       ((earliest (clocks_in zones) w event (front (clocks_in zones) w event) -ℤ seconds_back event) ≤ℤ local_seconds local)
@@ -220,10 +239,6 @@ module _ (zones : FileZones) (w : Window) (event : Event) where
       let t = sought-by event.rdates refl (instant (clocks_in zones) (time_at event.start local)) s in
       let off = off-local zones event local in
       (omega (arith, ints, t, off.1), omega (arith, ints, late-range event.rdates, off.1))
-    where
-      late-range : (rdates : List Rdate) → pos 0 ≤ℤ late_by rdates event.start.stamp event.length
-      late-range [] = late-least event.start.stamp event.length
-      late-range (rdate ∷ rdates) = omega (arith, ints)
 
   -- an event without a rule has no other starts
   pub none-else : event.rule ≡ None → (source : StartSource) (given : Rdate) → GivesStart (clocks_in zones) event source given

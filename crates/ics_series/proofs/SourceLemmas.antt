@@ -4,7 +4,8 @@ use Rattle.std.specs.Cmp.{IsTotalOrder}
 use Rattle.std.specs.Cmp.Lexicographic.{slice_cmp}
 use Rattle.std.specs.Int.{saturate_signed, w64}
 use Rattle.std.specs.Ordering.{on, ordering_then}
-use Rattle.std.proofs.Common.{◌≡◌, ℕ, suc, ◌+◌, ◌≤◌, ℤ, pos, ◌+ℤ◌, false, cond, List, [], ◌∷◌, ◌++◌, map, length, drop, take, inl, ⊎_elim, Option, Some, None}
+use Rattle.std.proofs.Common.{◌≡◌, ℕ, suc, ◌+◌, ◌≤◌, ℤ, pos, ◌+ℤ◌, false, cond, List, [], ◌∷◌, ◌++◌, map, length, drop, take, inl, inr, ⊎_elim, Option, Some}
+use Rattle.std.proofs.Common.{None}
 use Rattle.std.proofs.Common.{refl, sym, ◌∙◌, ap, subst, arith, ◌≤ℤ◌, count_by, slice_get, nat_cmp, Ordering, Less, Equal, SFits, get_or, add-one}
 use Rattle.std.proofs.lemmas.Cmp.{on_total}
 use Rattle.std.proofs.lemmas.Int.{ints}
@@ -66,6 +67,28 @@ module _ {files : List FileSaid} {display : Clock} {w : Window} {after : Option 
           behind = e ∙ h.behind;
         })
 
+    -- nor is that of a version there which has nothing
+    pub versions-none : {v : Version} {before now new : List (List Entry)} → slice_get vs i ≡ Some v →
+        HasLists files display w after (map seen (take i vs)) before now
+        → ((o : Entry) → IsOfVersion files display w after (seen v) o → ⊥) → new ≡ now → HasLists files display w after (map seen (take (i + 1) vs)) before new
+    versions-none {v = v} there h n e =
+        let labels = map seen (take i vs) in
+        rw (← taken vs i there)
+        (record {
+          more = h.more;
+          are = record {
+            each = all-as (IsOneOf files display w after labels) (IsOneOf files display w after (labels ++ seen v ∷ [])) h.more
+                (wider-list labels (seen v)) h.are.each;
+            every = λ k m r.
+                ⊎_elim (λ a. h.are.every k a r)
+                (⊎_elim
+                (λ q. record { list = []; stands = inl refl; listing = record { rises = tt; exact = λ o. (λ x. absurd x, λ x. absurd (n o (rw q at x))) } })
+                (λ b. absurd b))
+                (in-append k labels (seen v ∷ []) m);
+          };
+          behind = e ∙ h.behind;
+        })
+
     -- the list of a version stands behind those of the versions before it
     pub versions-more : {v : Version} {list : List Entry} {before now new : List (List Entry)} → slice_get vs i ≡ Some v →
         HasLists files display w after (map seen (take i vs)) before now → IsListing entry_cmp (IsOfVersion files display w after (seen v)) list
@@ -82,8 +105,9 @@ module _ {files : List FileSaid} {display : Clock} {w : Window} {after : Option 
                 (record { label = seen v; stands = in-append_right (seen v) labels (seen v ∷ []) (inl refl); listing = k });
             every = λ x m r.
                 ⊎_elim
-                (λ a. let s = h.are.every x a r in record { list = s.list; stands = in-append_left s.list h.more (list ∷ []) s.stands; listing = s.listing })
-                (⊎_elim (λ q. record { list = list; stands = in-append_right list h.more (list ∷ []) (inl refl); listing = rw q k }) (λ b. absurd b))
+                (λ a. let s = h.are.every x a r in
+                record { list = s.list; stands = ⊎_elim inl (λ n. inr (in-append_left s.list h.more (list ∷ []) n)) s.stands; listing = s.listing })
+                (⊎_elim (λ q. record { list = list; stands = inr (in-append_right list h.more (list ∷ []) (inl refl)); listing = rw q k }) (λ b. absurd b))
                 (in-append x labels (seen v ∷ []) m);
           };
           behind = e ∙ (ap (λ xs. xs ++ list ∷ []) h.behind ∙ append_assoc before h.more (list ∷ []));

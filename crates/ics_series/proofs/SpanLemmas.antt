@@ -1,41 +1,50 @@
 -- Which versions cannot meet a window, known from their spans, and near which days nothing is.
 use Rattle.std.proofs.Common.{◌≡◌, ℕ, ℤ, pos, ◌+ℤ◌, ◌-ℤ◌, ◌<ℤ◌, ◌≤ℤ◌, List, [], ◌∷◌, map, inl, inr, ⊎_elim, Option, Some, None, Bool, true, false, refl, sym}
 use Rattle.std.proofs.Common.{◌∙◌, ap, ◌+◌, ◌<◌, ◌++◌, length, drop, get_or, add-one, drop-cons}
-use Rattle.std.proofs.Common.{subst, arith, int_lt, int_le, slice_get, option_map, option_and_then, if◌then◌else◌, Ordering, ◌⊎◌}
+use Rattle.std.proofs.Common.{subst, arith, int_lt, int_le, slice_get, option_map, option_and_then, if◌then◌else◌, IsTrue, Ordering, ◌⊎◌}
 use Rattle.std.specs.Int.{int_max, int_min}
+use Rattle.std.specs.Option.{unwrap_or}
 use Rattle.std.specs.List.{AllByRecursion, filter_map}
 use Rattle.std.proofs.lemmas.Bool.{cases_Bool, cond_both}
 use Rattle.std.proofs.lemmas.Int.{int_max_is, int_min_is, ints}
-use Rattle.std.proofs.lemmas.Option.{slice_get-map}
+use Rattle.std.proofs.lemmas.List.{length-map}
+use Rattle.std.proofs.lemmas.Option.{slice_get-get_or, slice_get-map}
 use Rattle.ics_event.specs.Event.{FileSaid}
 use Rattle.ics_event.specs.declared.event.Event.{Event}
 use Rattle.ics_fields.specs.Locals.{day_of_local, midnight}
 use Rattle.ics_zone.proofs.Cases.{int_le_false, less_or_not_z, true_int_le, true_int_lt}
 use Rattle.ics_zone.specs.Seconds.{IsNear}
+use Rattle.ics_series.specs.declared.series.Series.{Series}
 use Rattle.ics_series.specs.declared.span.Span.{Span}
 use Rattle.ics_series.specs.declared.version.Version.{Version}
 use Rattle.ics_series.specs.declared.window.Window.{Window}
 use Rattle.ics_series.specs.Chosen.{overridden, subject_of, IsChosen}
 use Rattle.ics_series.specs.Clocks.{Clock, Clocks, instant}
-use Rattle.ics_series.specs.Entry.{Entry, Rank}
+use Rattle.ics_series.specs.Entry.{entry_cmp, Entry, Rank}
 use Rattle.ics_series.specs.Laws.{HasVersion}
 use Rattle.ics_series.specs.Listing.{IsIn, IsListing}
-use Rattle.ics_series.specs.Inner.Masters.{Recurs}
+use Rattle.ics_series.specs.FileZones.{clocks_in}
+use Rattle.ics_series.specs.Inner.Masters.{IsOfVersion, IsSourceOf, Recurs}
 use Rattle.ics_series.specs.Meeting.{is_met}
-use Rattle.ics_series.specs.Meets.{IsListed}
+use Rattle.ics_series.specs.Meets.{IsListed, Meets}
 use Rattle.ics_series.specs.Merged.{merged}
 use Rattle.ics_series.specs.OnDays.{first_near, last_near, IsNearDay}
 use Rattle.ics_series.specs.PlacedEvents.{Placed, IsPlaced, clocks_at}
 use Rattle.ics_series.specs.Rising.{Rises}
 use Rattle.ics_series.specs.Singles.{begun_first, entry_first, is_single, single_at, single_of}
 use Rattle.ics_series.specs.Inner.SpanLaws.{AreThoseChosen}
-use Rattle.ics_series.specs.Inner.Spans.{always, can_meet, first_of, is_out, is_out_of, span_at, span_by, span_of, span_once, AreSpans}
+use Rattle.ics_series.specs.Inner.Spans.{always, can_meet, first_of, is_out, is_out_of, span_at, span_by, span_of, span_once, AreMovedOn, AreSpans}
+use Rattle.ics_series.specs.Inner.Spans.{AreSpansAfter, IsLater, IsMovedOn, IsRest, NoneMeets}
+use Rattle.ics_series.specs.SeriesFeed.{series_sources, source_of, IsSameSeries}
+use Rattle.ics_series.specs.Sources.{Recurring, Source}
+use Rattle.ics_series.specs.Sources.Source.{Of, Once}
 use Rattle.ics_series.specs.Spots.{event_at}
 use Rattle.ics_series.specs.Versions.{by_subject, label_of, placed_in, seen, AreChosen, Label}
 use Rattle.ics_series.proofs.AheadLemmas.{near-under, shown-first, shown-last, NoneBetween}
 use Rattle.ics_series.proofs.Cases.{not-true}
-use Rattle.ics_series.proofs.ListingLemmas.{one-listing}
+use Rattle.ics_series.proofs.ListingLemmas.{contains-in, get-in, one-listing}
 use Rattle.ics_series.proofs.NearDayLemmas.{day-under, day-within, is_met-meets, meets-is_met}
+use Rattle.ics_series.proofs.RecurringLemmas.{recurring-master}
 use Rattle.ics_series.proofs.SinglesLemmas.{given-first}
 use Rattle.ics_series.proofs.ToComeLemmas.{listed-given}
 use Rattle.ics_series.proofs.UnionLemmas.{merged-listing, IsInOne}
@@ -158,55 +167,204 @@ module _ (outer w : Window) (late : w.to ≤ℤ outer.to) where
         ∙ (ap (λ b. can_meet (if b then span_once clocks outer event else always) w) (sym out-single) ∙ out) in absurd cc)
         (λ e. e) (cases_Bool (is_met w (entry_first clocks event r)))
 
-    out-of : (os : List Label) (after : Option Rank) (r : Option ℤ) → single_of clocks w os after r event ≡ None
-    out-of os after r =
-        let o = entry_first clocks event r in
-        rw (out-single, out-met r) refl
+    -- an event whose span cannot meet the window has nothing there
+    none-meets : NoneMeets clocks event w
+    none-meets = record { once = λ s r. out-met r; each = λ r. let no : true ≡ false = sym out-single ∙ r in absurd cc }
 
-  module _ (files : List FileSaid) (display : Clock) (l : Label) (out : can_meet (span_at files display outer l) w ≡ false) where
-    abbrev clocks : Clocks
-    clocks = clocks_at files display l.spot.file
+-- spans as they were found are those of the versions, for windows that do not end later
+pub are-spans : (files : List FileSaid) (display : Clock) (outer w : Window) → w.to ≤ℤ outer.to → (labels : List Label) {spans : List Span}
+    → spans ≡ map (span_at files display outer) labels → AreSpans files display w labels spans
+are-spans files display outer w late labels {spans = spans} is k s l event at there stands out =
+    let here : Some s ≡ Some (span_at files display outer l) =
+    sym at ∙ (ap (λ xs. slice_get xs k) is
+    ∙ (slice_get-map (span_at files display outer) labels k ∙ ap (option_map (span_at files display outer)) there)) in
+    let same : s ≡ span_at files display outer l = ap (λ o. unwrap_or o s) here in
+    none-meets outer w late (clocks_at files display l.spot.file) event
+    (ap (λ o. can_meet (span_of (clocks_at files display l.spot.file) outer o) w) (sym stands) ∙ (ap (λ x. can_meet x w) (sym same) ∙ out))
 
-    -- it gives nothing there
-    pub out-none : (os : List Label) (after : Option Rank) → single_at files display w os after l ≡ None
-    out-none os after = by (event_at files l.spot) out
-      where
-        by : (o : Option Event) → can_meet (span_of clocks outer o) w ≡ false →
-            option_and_then (single_of clocks w os after l.subject.recurrence) o ≡ None
-        by None e = refl
-        by (Some event) e = out-of clocks event e os after l.subject.recurrence
+-- where there are no spans all is looked at
+pub no-spans : (files : List FileSaid) (display : Clock) (w : Window) (labels : List Label) {spans : List Span} → spans ≡ []
+    → AreSpans files display w labels spans
+no-spans files display w labels e k s l event at = let f : None ≡ Some s = ap (λ xs. slice_get xs k) (sym e) ∙ at in absurd cc
 
-    -- and its event does not recur
-    pub out-once : Recurs files l → ⊥
-    out-once r =
-        let own = subst (λ o. can_meet (span_of clocks outer o) w ≡ false) r.stands out in
-        let no : true ≡ false = sym (out-single clocks r.event own) ∙ r.recurs in absurd cc
+-- What the span at a place tells of the version there.
+module _ (files : List FileSaid) (display : Clock) (w : Window) (labels : List Label) (spans : List Span) (are : AreSpans files display w labels spans)
+    (i : ℕ) {l : Label} (there : slice_get labels i ≡ Some l) (out : is_out spans i w ≡ true) where
+  out-at : (event : Event) → event_at files l.spot ≡ Some event → NoneMeets (clocks_at files display l.spot.file) event w
+  out-at event stands = by (slice_get spans i) refl
+    where
+      by : (o : Option Span) → slice_get spans i ≡ o → NoneMeets (clocks_at files display l.spot.file) event w
+      by None e = let no : false ≡ true = ap (λ o. is_out_of o w) (sym e) ∙ out in absurd cc
+      by (Some s) e = are i s l event e there stands (not-true (can_meet s w) (ap (λ o. is_out_of o w) (sym e) ∙ out))
 
--- the span at a place
-pub out-at : (files : List FileSaid) (display : Clock) (w : Window) (labels : List Label) {spans : List Span} → AreSpans files display w labels spans →
-    (i : ℕ) {l : Label} → slice_get labels i ≡ Some l → is_out spans i w ≡ true →
-    (outer : Window) × (w.to ≤ℤ outer.to) × (can_meet (span_at files display outer l) w ≡ false)
-out-at files display w labels (inl none) i there out = let no : false ≡ true = ap (λ xs. is_out xs i w) (sym none) ∙ out in absurd cc
-out-at files display w labels {spans = spans} (inr s) i {l = l} there out =
-    let at : slice_get spans i ≡ Some (span_at files display s.0 l) =
-    ap (λ xs. slice_get xs i) s.2 ∙ (slice_get-map (span_at files display s.0) labels i ∙ ap (option_map (span_at files display s.0)) there) in
-    (s.0, s.1, not-true (can_meet (span_at files display s.0 l) w) (ap (λ o. is_out_of o w) (sym at) ∙ out))
+  -- it gives nothing there
+  pub out-none : (os : List Label) (after : Option Rank) → single_at files display w os after l ≡ None
+  out-none os after = by (event_at files l.spot) refl
+    where
+      by : (o : Option Event) → event_at files l.spot ≡ o → option_and_then (single_of (clocks_at files display l.spot.file) w os after l.subject.recurrence) o
+          ≡ None
+      by None e = refl
+      by (Some event) e = one (is_single event) refl
+        where
+          first : Entry
+          first = entry_first (clocks_at files display l.spot.file) event l.subject.recurrence
+
+          one : (b : Bool) → is_single event ≡ b → single_of (clocks_at files display l.spot.file) w os after l.subject.recurrence event ≡ None
+          one true s = rw (s, (out-at event e).once s l.subject.recurrence) refl
+          one false s = rw s refl
+
+  -- nor has its event an occurrence there, where it recurs
+  pub out-version : (after : Option Rank) (o : Entry) → IsOfVersion files display w after l o → ⊥
+  out-version after o v = (out-at v.by.event v.by.stands).each v.by.recurs o v.of v.meets
 
 -- Where no span can meet a window nothing does.
-module _ (files : List FileSaid) (display : Clock) (vs : List Version) (chosen : AreChosen files display vs) (outer : Window) {spans : List Span}
-    (are : spans ≡ map (span_at files display outer) (map seen vs)) where
-  pub none-out : (n : Window) → n.to ≤ℤ outer.to → ((s : Span) → IsIn s spans → can_meet s n ≡ false) → (o : Entry) → IsListed files display n o → ⊥
-  none-out n late none o listed =
+module _ (files : List FileSaid) (display : Clock) (vs : List Version) (chosen : AreChosen files display vs) (spans : List Span)
+    (size : length spans ≡ length vs) where
+  -- each version has a span
+  span-there : (l : Label) → IsIn l (map seen vs) → (k : ℕ) × (s : Span) × (slice_get spans k ≡ Some s) × (slice_get (map seen vs) k ≡ Some l)
+  span-there l m =
+      let c = contains-in l (map seen vs) m in
+      let within : c.0 < length spans = omega (arith, c.1, size, length-map vs seen) in (
+        c.0,
+        get_or spans c.0 always,
+        slice_get-get_or spans c.0 always within,
+        slice_get-get_or (map seen vs) c.0 l c.1 ∙ ap Some c.2,
+      )
+
+  pub none-of : (n : Window) → AreSpans files display n (map seen vs) spans → ((s : Span) → IsIn s spans → can_meet s n ≡ false) → (l : Label) (event : Event)
+      → IsIn l (map seen vs) → event_at files l.spot ≡ Some event → NoneMeets (clocks_at files display l.spot.file) event n
+  none-of n are none l event m stands =
+      let k = span-there l m in are k.0 k.1 l event k.2 k.3 stands (none k.1 (get-in k.1 spans k.0 k.2))
+
+  pub none-out : (n : Window) → AreSpans files display n (map seen vs) spans → ((s : Span) → IsIn s spans → can_meet s n ≡ false) → (o : Entry)
+      → IsListed files display n o → ⊥
+  none-out n are none o listed =
       let g = (listed-given files display n vs chosen o listed).0 in
       let label = label_of files display g.by in
       let there : IsIn label (map seen vs) = rw chosen.are (map-in (label_of files display) g.by chosen.chosen ((chosen.listing.exact g.by).1 g.chosen)) in
-      let out = none (span_at files display outer label) (rw are (map-in (span_at files display outer) label (map seen vs) there)) in
+      let out = none-of n are none label g.by.event there (placed-event files g.by g.chosen.placed) in
       let clocks = clocks_at files display g.by.file in
-      let own = subst (λ e. can_meet (span_of clocks outer e) n ≡ false) (placed-event files g.by g.chosen.placed) out in
-      let single = out-single outer n late clocks g.by.event own in
+      ⊎_elim
+      (λ single.
       let first = given-first clocks g.by.event single o g.is.0 in
-      let no : true ≡ false = sym (meets-is_met n o g.is.1) ∙ (ap (is_met n) first
-      ∙ out-met outer n late clocks g.by.event own (overridden clocks g.by.event)) in absurd cc
+      let no : true ≡ false = sym (meets-is_met n o g.is.1) ∙ (ap (is_met n) first ∙ out.once single (overridden clocks g.by.event)) in absurd cc)
+      (λ recurs.
+      let own = ap (option_map (instant clocks)) (recurring-master g.by.event recurs) in
+      out.each recurs o (rw own at g.is.0) g.is.1)
+      (cases_Bool (is_single g.by.event))
+
+-- Spans that are moved on.
+module _ (files : List FileSaid) (display : Clock) (w : Window) (labels : List Label) where
+  pub moved-none : {old new : List Span} → new ≡ old → AreMovedOn files display w labels old new
+  moved-none e = record { size = ap length e; still = λ n later are. subst (AreSpans files display n labels) (sym e) are }
+
+  pub moved-both : {first mid last : List Span} → AreMovedOn files display w labels first mid → AreMovedOn files display w labels mid last
+      → AreMovedOn files display w labels first last
+  moved-both a b = record { size = b.size ∙ a.size; still = λ n later are. b.still n later (a.still n later are) }
+
+  -- they are those of the window itself
+  pub moved-here : {old new : List Span} → AreMovedOn files display w labels old new → AreSpans files display w labels old → AreSpans files display w labels new
+  moved-here moved are = moved.still w (record { from = omega (arith, ints); same = refl }) are
+
+  -- the span of a master that has nothing in the window
+  module _ (k : ℕ) {l : Label} (there : slice_get labels k ≡ Some l) (r : Recurs files l) {since : ℤ} where
+    none-later : {s : Span} → since ≤ℤ w.from → ((o : Entry) → IsOfVersion files display w None l o → ⊥)
+        → IsRest (clocks_at files display l.spot.file) r.event w since s
+        → (n : Window) → IsLater w n → can_meet s n ≡ false → NoneMeets (clocks_at files display l.spot.file) r.event n
+    none-later {s = s} early none rest n later out = record {
+      once = λ single. let no : true ≡ false = sym single ∙ r.recurs in absurd cc;
+      each = λ recurs o of meets. elim (less_or_not_z o.start w.to) [
+        | inl begun ↦ none o (record { by = r; of = of; meets = here o meets begun; later = refl })
+        | inr end ↦ absurd (
+            let first = rest.first o of end (omega (arith, ints, early, w.ordered, end)) in
+            let start = meets.begun in
+            let most : n.to ≤ℤ s.first = cannot in
+            omega (arith, ints, first, start, most))
+      ];
+    }
+      where
+        here : (o : Entry) → Meets n o → o.start <ℤ w.to → Meets w o
+        here o m begun = record {
+          begun = begun;
+          lasting = ⊎_elim (λ a. inl (omega (arith, ints, a, later.from))) (λ b. inr (b.0, omega (arith, ints, b.1, later.from))) m.lasting;
+          started = λ t. let from = m.started (subst IsTrue later.same t) in omega (arith, ints, from, later.from);
+        }
+
+        cannot : n.to ≤ℤ s.first
+        cannot = elim (less_or_not_z s.first n.to) [
+          | inl less ↦ absurd (
+              let yes = both-true n n (omega (arith, ints)) s less (omega (arith, ints, rest.last, n.ordered, n.not_late)) in
+              let no : true ≡ false = sym yes ∙ out in cc)
+          | inr most ↦ most
+        ]
+
+    moved-at : {after : Option Rank} {coming : List Entry} {old new : List Span} → (after ≡ None → since ≤ℤ w.from)
+        → IsListing entry_cmp (IsOfVersion files display w after l) coming
+        → IsMovedOn (clocks_at files display l.spot.file) r.event w since after coming old k new → AreMovedOn files display w labels old new
+    moved-at early listing (inl e) = moved-none e
+    moved-at {old = old} {new = new} early listing (inr put) = record {
+      size = put.put.0;
+      still = λ n later are j s label event at place stands out. ⊎_elim
+          (λ before. are j s label event before place stands out)
+          (λ mine.
+          let label-is : label ≡ l = ap (λ o. unwrap_or o label) (sym place ∙ (ap (slice_get labels) mine.0 ∙ there)) in
+          let event-is : event ≡ r.event =
+          ap (λ o. unwrap_or o event) (sym stands ∙ (ap (λ (x : Label). event_at files x.spot) label-is ∙ r.stands)) in
+          let listed = rw put.none at listing in
+          rw (label-is, event-is)
+          (none-later (early put.none) (λ o v. subst (IsIn o) put.empty ((listed.exact o).1 v)) put.rest n later
+          (ap (λ x. can_meet x n) (sym mine.1) ∙ out)))
+          (put.put.1 j s at);
+    }
+
+-- the first of these sources
+abbrev pub first_source : Recurring → List Source → Recurring
+first_source d [] = d
+first_source d (Once ∷ sources) = d
+first_source d (Of m ∷ sources) = m
+
+-- So of a series, which is that of the version at a place.
+module _ (files : List FileSaid) (display : Clock) (w : Window) (vs : List Version) (k : ℕ) {v : Version} (there : slice_get vs k ≡ Some v) where
+  pub series-moved : {after : Option Rank} (s : Series) {m : Recurring} {coming : List Entry} {old new : List Span}
+      → IsSourceOf files display w after (seen v) m → series_sources s ≡ Of m ∷ [] → (after ≡ None → s.since ≤ℤ s.window.from)
+      → IsListing entry_cmp (IsOfVersion files display w after (seen v)) coming
+      → IsMovedOn (clocks_in s.zones) s.event.now s.window s.since after coming old k new → AreMovedOn files display w (map seen vs) old new
+  series-moved {after = after} s {m = m} {coming = coming} {old = old} {new = new} is sources early listing moved =
+      let one : record { clocks = clocks_in s.zones; event = s.event.now; window = s.window; since = s.since } ≡ m = ap (first_source m) sources in
+      let at = slice_get-map seen vs k ∙ ap (option_map seen) there in
+      let own = subst (λ (r : Recurring). IsMovedOn r.clocks r.event r.window r.since after coming old k new) one moved in
+      let soon = subst (λ (r : Recurring). after ≡ None → r.since ≤ℤ r.window.from) one early in
+      moved-at files display w (map seen vs) k at (record { event = m.event; stands = is.stands; recurs = is.recurs })
+      (rw is.window at soon) listing (rw (is.clocks, is.window) at own)
+
+-- a series that was read on is of the same source
+pub same-sources : {a b : Series} → IsSameSeries a b → series_sources b ≡ series_sources a
+same-sources same = λ i. source_of (clocks_in (same.zones i)) ((same.event i).now) (same.window i) (same.since i)
+
+-- The windows near days.
+pub near-later : {w m n : Window} {x y : ℤ} → IsNearDay w x m → IsNearDay w y n → x ≤ℤ y → IsLater m n
+near-later {w = w} {x = x} {y = y} a b l = record {
+  from = omega (arith, ints, a.from, b.from, l, int_max_is w.from (midnight (x -ℤ pos 2)), int_max_is w.from (midnight (y -ℤ pos 2)));
+  same = a.all ∙ sym b.all;
+}
+
+-- Spans moved on near a day are those near each later day.
+module _ (files : List FileSaid) (display : Clock) (w : Window) (vs : List Version) {day next : ℤ} {old new : List Span} (size : length old ≡ length vs)
+    (are : AreSpansAfter files display w day (map seen vs) old) {m : Window} (near : IsNearDay w next m)
+    (moved : AreMovedOn files display m (map seen vs) old new) where
+  pub after-next : day <ℤ next → AreSpansAfter files display w next (map seen vs) new
+  after-next on x n later h =
+      moved.still n (near-later near h (omega (arith, ints, later))) (are x n (omega (arith, ints, later, on)) h)
+
+  -- also where the day stays, since nothing is near the days between
+  pub after-same : AreChosen files display vs
+      → ((x : ℤ) → day <ℤ x → x <ℤ next → (s : Span) → IsIn s old → (n : Window) → IsNearDay w x n → can_meet s n ≡ false)
+      → AreSpansAfter files display w day (map seen vs) new
+  after-same chosen none x n later h = elim (less_or_not_z x next) [
+    | inl before ↦ λ k s l event at place stands out. none-of files display vs chosen old size n (are x n later h) (λ s m. none x later before s m n h) l event
+        (get-in l (map seen vs) k place) stands
+    | inr on ↦ moved.still n (near-later near h on) (are x n later h)
+  ]
 
 -- what a window holds near a day
 pub near-window : (w : Window) (day : ℤ) → first_near w ≤ℤ day → day ≤ℤ last_near w → (n : Window) × IsNearDay w day n
@@ -276,14 +434,14 @@ module _ (w : Window) (spans : List Span) {day first reached next : ℤ} (low : 
 
 -- So nothing is shown under them.
 module _ (files : List FileSaid) (display : Clock) (near : (t : ℤ) → IsNear (display.offset t)) (w : Window) (vs : List Version)
-    (chosen : AreChosen files display vs) {spans : List Span} (are : spans ≡ map (span_at files display w) (map seen vs)) where
-  pub none-between : {day next : ℤ}
+    (chosen : AreChosen files display vs) (spans : List Span) (size : length spans ≡ length vs) where
+  pub none-between : {day next : ℤ} → AreSpansAfter files display w day (map seen vs) spans
       → ((x : ℤ) → day <ℤ x → x <ℤ next → (s : Span) → IsIn s spans → (n : Window) → IsNearDay w x n → can_meet s n ≡ false)
       → NoneBetween files display near w day next
-  none-between {day = day} {next = next} none p shown later =
+  none-between {day = day} {next = next} are none p shown later =
       ⊎_elim
       (λ early.
       let n = near-window w p.day (shown-first files display near w p shown) (shown-last files display near w p shown) in
-      absurd (none-out files display vs chosen w are n.0 (omega (arith, ints, n.1.to, int_min_is w.to (midnight (p.day +ℤ pos 3))))
-      (λ s m. none p.day later early s m n.0 n.1) p.entry (shown.listed.0, near-under files display near w n.0 n.1 p (shown, refl))))
+      absurd (none-out files display vs chosen spans size n.0 (are p.day n.0 later n.1) (λ s m. none p.day later early s m n.0 n.1) p.entry
+      (shown.listed.0, near-under files display near w n.0 n.1 p (shown, refl))))
       (λ l. l) (less_or_not_z p.day next)

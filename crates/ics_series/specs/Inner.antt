@@ -3,6 +3,7 @@ pub mod EntryLaws
 pub mod Marks
 pub mod Masters
 pub mod MergedLaws
+pub mod Quiet
 pub mod RuleStartLaws
 pub mod SpanLaws
 pub mod Spans

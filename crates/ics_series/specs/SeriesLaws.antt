@@ -37,5 +37,5 @@ window-set : (a b : Window) → IsProp (a ≡ b)
 window-set a b = hlevel (props, codes)
 
 pub own-rule-prop : (zones : FileZones) (event : Event) (w : Window) (first : ℤ) (o : Option RuleStarts) → IsProp (HasOwnRule zones event w first o)
-own-rule-prop zones event w first None = Unit-prop
+own-rule-prop zones event w first None = hlevel props
 own-rule-prop zones event w first (Some s) = hlevel (props, zones-set, event-set, window-set)

@@ -1,6 +1,6 @@
 -- The starts of a series still to come, and the occurrences that they give.
 use Rattle.std.specs.Prelude.{◌≡◌, ◌≤ℤ◌, ℤ, ◌+ℤ◌, ◌-ℤ◌, Bool, true, false, ◌&&◌, not, int_le, List, [], ◌∷◌, drop, Option, None, Some, ◌⊎◌}
-use Rattle.std.specs.Prelude.{if◌then◌else◌}
+use Rattle.std.specs.Prelude.{if◌then◌else◌, is_none}
 use Rattle.std.specs.Int.{int_max, int_min}
 use Rattle.std.specs.List.{filter_map, list_any}
 use Rattle.std.specs.Ordering.{int_eq}
@@ -76,16 +76,18 @@ pub record IsRuleFrom (clocks : Clocks) (event : Event) (w : Window) (since : �
   pub gives : starts ≡ found clocks event rule w (number from)
 
 -- These starts are those of this event's rule in this window. They are read from a local on that is not before DTSTART, and no more than
--- so many seconds and a day before the first instant that is needed.
+-- so many seconds and a day before the first instant that is needed. It is DTSTART, or so many seconds or more before that instant.
 pub record IsOwnRule (zones : FileZones) (event : Event) (w : Window) (first : ℤ) (s : RuleStarts) : Type 0 where
   pub zones_are : s.zones ≡ zones
   pub event_is : s.event.now ≡ event
   pub window_is : s.window ≡ w
   pub day : IsDayNumber s.from.day
   pub late : int_max (local_seconds (local_of event.start.stamp)) (first -ℤ (seconds_back event +ℤ whole_days 1)) ≤ℤ local_seconds s.from
+  pub low : local_seconds s.from ≤ℤ int_max (local_seconds (local_of event.start.stamp)) (first -ℤ seconds_back event)
 
+-- there are none only if the event has no rule
 abbrev pub HasOwnRule : FileZones → Event → Window → ℤ → Option RuleStarts → Type 0
-HasOwnRule zones event w first None = Unit {0}
+HasOwnRule zones event w first None = is_none event.rule ≡ true
 HasOwnRule zones event w first (Some s) = IsOwnRule zones event w first s
 
 -- the instant from which on a series needs starts

@@ -23,7 +23,7 @@ ghost use Rattle.ics_series.specs.AgendaParts.{part_coming, part_sources};
 ghost use Rattle.ics_series.specs.Sources.{master_of, recurring, AreApart, AreApart-prop, AreSources, Recurring};
 ghost use Rattle.ics_series.specs.Steps.{HasStepBound};
 ghost use Rattle.ics_series.specs.Tokens.{IsKey};
-ghost use Rattle.ics_series.specs.Inner.Spans.{AreSpans};
+ghost use Rattle.ics_series.specs.Inner.Spans.{AreMovedOn, AreSpans};
 ghost use Rattle.ics_series.specs.Versions.{seen, subject_cmp, subject_seen, AreChosen};
 
 use crate::chosen::{chosen, is_named, overrides};
@@ -78,28 +78,30 @@ impl<'a> Agenda<'a> {
             → Occurs (map said_by files.entry.now) (display_clock display.entry.now) o → IsKey (rank_of o)) }
     {
         let chosen = chosen(alloc, files, display)?;
-        let spans = Vec::new(alloc);
+        let mut spans = Vec::new(alloc);
         let mut marks = Vec::new(alloc);
         Agenda::of(
-            alloc, files, display, &chosen, &spans, &mut marks, window, after,
+            alloc, files, display, &chosen, &mut spans, &mut marks, window, after,
         )
     }
 
-    // Those of the versions that count. The spans, if there are any, say which of them need not be read,
-    // and the marks from where on rules under COUNT are searched.
+    // Those of the versions that count. The spans, if there are any, say which of them need not be read, and
+    // are moved on where nothing is. The marks say from where on rules under COUNT are searched.
     pub(crate) fn of(
         alloc: Global,
         files: &'a [FileEvents],
         display: &'a Display,
         chosen: &[Version<'a>],
-        spans: &[Span],
+        spans: &mut Vec<Span>,
         marks: &mut Vec<Option<Mark>>,
         window: Window,
         after: Option<&Key>,
     ) -> Result<Agenda<'a>, AllocError>
         requires chosen { AreChosen (map said_by files.now) (display_clock display.now) chosen.now }
-        requires spans { AreSpans (map said_by files.now) (display_clock display.now) window (map seen chosen.now) spans.now }
+        requires spans { AreSpans (map said_by files.now) (display_clock display.now) window (map seen chosen.now) spans.old.items }
         requires marks { AreMarks (map said_by files.now) (map seen chosen.now) marks.old.items }
+        ensures spans { AreMovedOn (map said_by files.entry.now) (display_clock display.entry.now) window (map seen chosen.entry.now)
+            spans.old.items spans.new.items }
         ensures marks { AreMarks (map said_by files.entry.now) (map seen chosen.entry.now) marks.new.items }
         ensures listing { IfOk result (λ agenda. IsListing entry_cmp
             (IsToCome (map said_by files.entry.now) (display_clock display.entry.now) window

@@ -16,8 +16,8 @@ ghost use Rattle.ics_series.specs.HeldMost.{held_most};
 ghost use Rattle.ics_series.specs.Listing.{IsIn, IsListing};
 ghost use Rattle.ics_series.specs.Inner.Marks.{marks-prop, AreMarks};
 ghost use Rattle.ics_series.specs.PlacedEvents.{Placed};
-ghost use Rattle.ics_series.specs.Inner.SpanLaws.{spans-set, those-chosen-prop, AreThoseChosen};
-ghost use Rattle.ics_series.specs.Inner.Spans.{can_meet, first_of, span_at};
+ghost use Rattle.ics_series.specs.Inner.SpanLaws.{spans-after-prop, those-chosen-prop, AreThoseChosen};
+ghost use Rattle.ics_series.specs.Inner.Spans.{can_meet, first_of, span_at, AreSpansAfter};
 ghost use Rattle.ics_series.specs.Tokens.{IsDayKey};
 ghost use Rattle.ics_series.specs.Versions.{seen, AreChosen};
 ghost use Rattle.ics_series.specs.declared.span.Span.{Span};
@@ -51,7 +51,7 @@ pub struct Days<'a> {
     window: Window,
     // The day and the start in the key after which the listing begins.
     after: Option<(i32, Moment)>,
-    // The versions that count, and from when to when they are.
+    // The versions that count, and from when to when they are, of what is not over before today.
     versions: Vec<Version<'a>>,
     spans: Vec<Span>,
     // Where the searches of the rules began near the day before.
@@ -59,8 +59,9 @@ pub struct Days<'a> {
     today: Today<'a>,
     ghost chosen: { AreThoseChosen (map said_by files.now) (display_clock display.now) versions.items } by { those-chosen-prop (map said_by files.now)
         (display_clock display.now) versions.items },
-    ghost spanned: { spans.items ≡ map (span_at (map said_by files.now) (display_clock display.now) window) (map seen versions.items) } by { spans-set
-        spans.items (map (span_at (map said_by files.now) (display_clock display.now) window) (map seen versions.items)) },
+    ghost sized: { length spans.items ≡ length versions.items },
+    ghost spanned: { AreSpansAfter (map said_by files.now) (display_clock display.now) window today.day (map seen versions.items)
+        spans.items } by { spans-after-prop (map said_by files.now) (display_clock display.now) window today.day (map seen versions.items) spans.items },
     ghost marked: { AreMarks (map said_by files.now) (map seen versions.items) marks.items } by { marks-prop (map said_by files.now)
         (map seen versions.items) marks.items },
     ghost not_before: { first_near window ≤ℤ today.day },
@@ -101,12 +102,12 @@ impl<'a> Days<'a> {
             → IsOnDay (map said_by files.entry.now) (display_clock display.entry.now) window p → IsDayKey (day_rank_of p)) }
     {
         let versions = chosen(alloc, files, display)?;
-        let spans = spans(alloc, files, display, &versions, &window)?;
+        let mut spans = spans(alloc, files, display, &versions, &window)?;
         let mut marks = Vec::new(alloc);
         add_places(&mut marks, versions.len())?;
         let (day, key) = begin(&window, after);
         let agenda = Days::agenda_of(
-            alloc, files, display, &versions, &spans, &mut marks, &window, day, key,
+            alloc, files, display, &versions, &mut spans, &mut marks, &window, day, key,
         )?;
         Ok(Days {
             alloc,
@@ -131,16 +132,19 @@ impl<'a> Days<'a> {
         files: &'a [FileEvents],
         display: &'a Display,
         versions: &[Version<'a>],
-        spans: &[Span],
+        spans: &mut Vec<Span>,
         marks: &mut Vec<Option<Mark>>,
         window: &Window,
         day: i32,
         key: Option<&Key>,
     ) -> Result<Agenda<'a>, AllocError>
         requires chosen { AreChosen (map said_by files.now) (display_clock display.now) versions.now }
-        requires spans { spans.now ≡ map (span_at (map said_by files.now) (display_clock display.now) window.now) (map seen versions.now) }
+        requires spans { spans.old.items ≡ map (span_at (map said_by files.now) (display_clock display.now) window.now) (map seen versions.now) }
         requires marks { AreMarks (map said_by files.now) (map seen versions.now) marks.old.items }
         requires first { first_near window.now ≤ℤ day }
+        ensures size { length spans.new.items ≡ length spans.old.items }
+        ensures spans { AreSpansAfter (map said_by files.entry.now) (display_clock display.entry.now) window.now day (map seen versions.entry.now)
+            spans.new.items }
         ensures marks { AreMarks (map said_by files.entry.now) (map seen versions.entry.now) marks.new.items }
         ensures agenda { IfOk result (λ agenda. IsNearAgenda (map said_by files.entry.now) (display_clock display.entry.now) window.now day
             (option_map (λ key. key_rank key.now) key.entry) (agenda_coming agenda) (agenda_sources agenda)
@@ -242,7 +246,7 @@ impl<'a> Days<'a> {
             self.files,
             self.display,
             &self.versions,
-            &self.spans,
+            &mut self.spans,
             &mut self.marks,
             near,
             None,

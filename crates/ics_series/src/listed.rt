@@ -1,6 +1,7 @@
 //! The starts that RDATEs give.
-ghost use Rattle.std.specs.Prelude.{◌≡◌, ◌++◌, IfOk};
+ghost use Rattle.std.specs.Prelude.{◌≡◌, ◌≤ℤ◌, ◌++◌, IfOk};
 ghost use Rattle.ics_series.specs.Found.{listed_from};
+ghost use Rattle.ics_series.specs.Inner.Quiet.{AreListedAgain};
 ghost use Rattle.ics_series.specs.Starts.{given_by};
 ghost use Rattle.ics_series.specs.FileZones.{clocks_in, IsOwnEvent};
 
@@ -9,7 +10,7 @@ use crate::start::{Start, StartSource, date_of, local_of, time_at, time_of};
 use crate::window::Window;
 use crate::zones::FileZones;
 use ics_event::{Event, Rdate, Time};
-use ics_values::{Local, Stamp};
+use ics_values::{Local, Moment, Stamp};
 use std::alloc::AllocError;
 
 /// Adds the starts that the RDATEs of an event give, but for those whose local is two days or more past
@@ -36,6 +37,31 @@ pub(crate) fn push_listed(
         })?;
     }
     Ok(())
+}
+
+/// An instant that is not after the first at which DTSTART or an RDATE starts an event, from another on.
+pub(crate) fn listed_again(zones: FileZones<'_>, event: &Event, from: Moment) -> Moment
+    requires { IsOwnEvent zones event.now }
+    ensures { AreListedAgain (clocks_in zones.entry) event.now from result }
+{
+    let mut least = lesser_past(from, Moment::MAX, instant(zones, event.start));
+    for rdate in &event.rdates {
+        let given = given_by(event.start, *rdate);
+        least = lesser_past(from, least, instant(zones, time_of(given)));
+    }
+    least
+}
+
+// The lesser of two instants or, if the second is before an end, the first.
+pub(crate) fn lesser_past(end: Moment, least: Moment, moment: Moment) -> Moment
+    ensures first { result ≤ℤ least }
+    ensures second { end ≤ℤ moment → result ≤ℤ moment }
+{
+    if moment < end {
+        least
+    } else {
+        least.min(moment)
+    }
 }
 
 // The time or period at which a value of an RDATE starts an event with this DTSTART. If the event has

@@ -1,5 +1,5 @@
 //! The masters that recur, each of them as a feed.
-ghost use Rattle.std.specs.Prelude.{◌≡◌, ◌<◌, [], ◌∷◌, length, map, slice_get, IfOk, MatchOption, Some};
+ghost use Rattle.std.specs.Prelude.{◌≡◌, ◌<◌, ◌≤ℤ◌, negsuc, [], ◌∷◌, length, map, slice_get, IfOk, MatchOption, None, Some};
 ghost use Rattle.std.specs.List.{flat_map};
 ghost use Rattle.std.specs.Option.{option_map};
 ghost use Rattle.ics_event.specs.Event.{said_by};
@@ -10,11 +10,12 @@ ghost use Rattle.ics_series.specs.Listing.{IsListing};
 ghost use Rattle.ics_series.specs.Inner.Marks.{AreMarks, IsMarkOf};
 ghost use Rattle.ics_series.specs.Inner.Masters.{HasLists, HasSources, IsOfVersion, IsSince, IsSourceOf, Recurs};
 ghost use Rattle.ics_series.specs.AgendaParts.{part_coming, part_sources};
-ghost use Rattle.ics_series.specs.SeriesFeed.{series_sources};
+ghost use Rattle.ics_series.specs.SeriesFeed.{series_left, series_of, series_sources, IsSameSeries};
 ghost use Rattle.ics_series.specs.Singles.{is_single};
 ghost use Rattle.ics_series.specs.Sources.{Recurring, IsFrom};
 ghost use Rattle.ics_series.specs.Sources.Source.{Of};
-ghost use Rattle.ics_series.specs.Inner.Spans.{AreSpans};
+ghost use Rattle.ics_series.specs.FileZones.{clocks_in};
+ghost use Rattle.ics_series.specs.Inner.Spans.{AreMovedOn, AreSpans, IsMovedOn};
 ghost use Rattle.ics_series.specs.Spots.{event_at};
 ghost use Rattle.ics_series.specs.Versions.{seen, AreChosen};
 
@@ -24,7 +25,7 @@ use crate::mark::{Mark, mark_at, put_mark};
 use crate::part::Part;
 use crate::series::Series;
 use crate::singles::is_single;
-use crate::span::{Span, is_out};
+use crate::span::{Span, is_out, put_span};
 use crate::version::Version;
 use crate::window::Window;
 use ics_event::FileEvents;
@@ -34,22 +35,25 @@ use std::alloc::{AllocError, Global};
 use std::cmp::Ordering;
 
 /// Adds a feed for each version that counts and whose event recurs: its occurrences that meet the
-/// window and, with a key, come after it, whether an override replaces them or not. The searches of rules under COUNT go on from their marks, and
-/// all leave a mark where they began.
+/// window and, with a key, come after it, whether an override replaces them or not. Those of versions whose
+/// spans cannot meet the window are left out. The searches of rules under COUNT go on from their marks, and
+/// all leave a mark where they began. Where nothing of a version meets the window, its span is moved on.
 pub(crate) fn push_series<'a>(
     alloc: Global,
     parts: &mut Vec<Part<'a>>,
     files: &'a [FileEvents],
     display: &'a Display,
     chosen: &[Version<'_>],
-    spans: &[Span],
+    spans: &mut Vec<Span>,
     marks: &mut Vec<Option<Mark>>,
     window: Window,
     after: Option<&Key>,
 ) -> Result<(), AllocError>
     requires chosen { AreChosen (map said_by files.now) (display_clock display.now) chosen.now }
-    requires spans { AreSpans (map said_by files.now) (display_clock display.now) window (map seen chosen.now) spans.now }
+    requires spans { AreSpans (map said_by files.now) (display_clock display.now) window (map seen chosen.now) spans.old.items }
     requires marks { AreMarks (map said_by files.now) (map seen chosen.now) marks.old.items }
+    ensures spans { AreMovedOn (map said_by files.entry.now) (display_clock display.entry.now) window (map seen chosen.entry.now)
+        spans.old.items spans.new.items }
     ensures marks { AreMarks (map said_by files.entry.now) (map seen chosen.entry.now) marks.new.items }
     ensures lists { IfOk result (λ _. HasLists (map said_by files.entry.now) (display_clock display.entry.now) window
         (option_map (λ key. key_rank key.now) after.entry) (map seen chosen.entry.now)
@@ -63,14 +67,42 @@ pub(crate) fn push_series<'a>(
             continue;
         }
         let mark = mark_at(marks, place);
-        if let Some(series) = series_at(
+        if let Some(mut series) = series_at(
             alloc, files, display, chosen, place, mark, window, after,
         )? {
             let begun = series.mark();
+            move_on(spans, place, after, &mut series)?;
             parts.push(Part::Series(Box::new(alloc, series)?))?;
             put_mark(marks, place, begun);
         }
     }
+    Ok(())
+}
+
+// Moves on the span at a place, if there is one and nothing of its version meets the window of the
+// series. After a key that is not asked.
+fn move_on(
+    spans: &mut Vec<Span>,
+    place: usize,
+    after: Option<&Key>,
+    series: &mut Series<'_>,
+) -> Result<(), AllocError>
+    ensures same { IsSameSeries series.old series.new }
+    ensures coming { series_of series.new (series_left series.new) ≡ series_of series.old (series_left series.old) }
+    ensures spans { IsMovedOn (clocks_in series.old.zones) series.old.event.now series.old.window series.old.since
+        (option_map (λ key. key_rank key.now) after.entry) (series_of series.old (series_left series.old)) spans.old.items place spans.new.items }
+{
+    if after.is_some() || spans.len() <= place {
+        return Ok(());
+    }
+    if series.settle()? {
+        return Ok(());
+    }
+    let span = Span {
+        first: series.quiet(),
+        last: Moment::MAX,
+    };
+    put_span(spans, place, span);
     Ok(())
 }
 
@@ -93,6 +125,8 @@ fn series_at<'a>(
         (Recurs (map said_by files.entry.now) (seen version) → ⊥)
         (λ series. IsListing entry_cmp (IsOfVersion (map said_by files.entry.now) (display_clock display.entry.now) window
         (option_map (λ key. key_rank key.now) after.entry) (seen version)) (⟦<Series<'a> as Coming>⟧.coming series))) }
+    ensures since { option_map (λ key. key_rank key.now) after.entry ≡ None
+        → IfOk result (λ given. MatchOption given (Unit {0}) (λ series. series.since ≤ℤ series.window.from)) }
     ensures sources { (version : Version) → slice_get chosen.entry.now place ≡ Some version → IfOk result (λ given. MatchOption given (Unit {0})
         (λ series. (m : Recurring) × IsSourceOf (map said_by files.entry.now) (display_clock display.entry.now) window
         (option_map (λ key. key_rank key.now) after.entry) (seen version) m × (series_sources series ≡ Of m ∷ []))) }
@@ -112,6 +146,7 @@ fn series_at<'a>(
 fn since_of(after: Option<&Key>, uid: &[u8]) -> Moment
     ensures since { IsSince (option_map (λ key. key_rank key.now) after.entry) uid.entry.now result }
     ensures from { IsFrom (option_map (λ key. key_rank key.now) after.entry) result }
+    ensures always { option_map (λ key. key_rank key.now) after.entry ≡ None → result ≡ negsuc 9_223_372_036_854_775_807 }
 {
     let Some(key) = after else {
         return Moment::MIN;

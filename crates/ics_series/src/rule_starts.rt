@@ -1,5 +1,5 @@
 //! The starts that the rule of an event gives, read one UTC day at a time.
-ghost use Rattle.std.specs.Prelude.{◌≡◌, ◌≤◌, ◌<ℤ◌, ◌≤ℤ◌, ◌+ℤ◌, ◌&&◌, pos, true, int_lt, OnErr, OnOk, Some};
+ghost use Rattle.std.specs.Prelude.{◌≡◌, ◌≤◌, ◌<ℤ◌, ◌≤ℤ◌, ◌+ℤ◌, ◌&&◌, pos, true, int_lt, IfOk, OnErr, OnOk, Some};
 ghost use Rattle.ics_fields.specs.Days.{IsDayNumber};
 ghost use Rattle.ics_rule.specs.Cursors.{place_of, IsCursorOf};
 ghost use Rattle.ics_rule.specs.Kept.{is_kept, until_moment};
@@ -8,14 +8,17 @@ ghost use Rattle.ics_series.specs.EventLaws.{time-prop};
 ghost use Rattle.ics_series.specs.Found.{moment_cmp, start_at};
 ghost use Rattle.ics_series.specs.Leeway.{seconds_off};
 ghost use Rattle.ics_series.specs.Inner.Marks.{begun-prop, IsBegun};
+ghost use Rattle.ics_series.specs.Inner.Quiet.{beyond-prop, AreBeyond};
 ghost use Rattle.ics_series.specs.Rising.{Rises, Rises-prop};
-ghost use Rattle.ics_series.specs.RuleStarts.{ends_at, gives, lets_until, midnight_number, with_held, AreHeld, HasLookedTo};
+ghost use Rattle.ics_series.specs.Clocks.{instant};
+ghost use Rattle.ics_series.specs.RuleStarts.{ends_at, gives, lets_until, midnight_number, settled_by, with_held, AreHeld, HasLookedTo};
 ghost use Rattle.ics_series.specs.Inner.RuleStartLaws.{cursor-prop, held-prop, looked-prop, rule-prop};
 ghost use Rattle.ics_series.specs.Starts.{local_of, recurrence_of, time_at};
 ghost use Rattle.ics_series.specs.FileZones.{clocks_in, IsTimeOf};
 ghost use Rattle.ics_series.specs.Waiting.{starts_in};
 ghost use Rattle.ics_rule.specs.PeriodNumbers.{rules_end};
 
+use crate::listed::lesser_past;
 use crate::mark::{Mark, begun};
 use crate::queue::{Queue, Waiting};
 use crate::start::{Start, local_of};
@@ -50,11 +53,15 @@ pub(crate) struct RuleStarts<'a> {
     end: i32,
     next: Moment,
     held: Queue,
+    /// None of the locals read so far that are at the window's end or later is before this instant.
+    beyond: Moment,
     ghost of: { recurrence_of event.now ≡ Some rule } by { rule-prop (recurrence_of event.now) (Some rule) },
     ghost rises: { Rises moment_cmp (starts_in event.now.start held) } by { Rises-prop moment_cmp (starts_in event.now.start held) },
     ghost are: { AreHeld (clocks_in zones) event.now rule window asked (starts_in event.now.start held) } by { held-prop (clocks_in zones) event.now rule
         window asked (starts_in event.now.start held) },
     ghost begins: { IsBegun rule from begun } by { begun-prop rule from begun },
+    ghost past_end: { AreBeyond (clocks_in zones) event.now rule window (number from) (place_of cursor) beyond } by { beyond-prop (clocks_in zones)
+        event.now rule window (number from) (place_of cursor) beyond },
     ghost own: { IsCursorOf rule cursor } by { cursor-prop rule cursor },
     ghost looked: { HasLookedTo rule from asked cursor } by { looked-prop rule from asked cursor },
     ghost time: { IsTimeOf zones.zones.now event.now.start } by { time-prop zones.zones.now event.now.start },
@@ -86,7 +93,8 @@ fn is_let_through(rule: &Rule, window: Window, first: Local, local: Local, momen
     (first | until) & early
 }
 
-// Holds the start that a kept local gives, unless one at its instant is held already.
+// Holds the start that a kept local gives, unless one at its instant is held already. The instant of the
+// local.
 fn hold(
     held: &mut Queue,
     zones: FileZones<'_>,
@@ -94,7 +102,7 @@ fn hold(
     rule: &Rule,
     window: Window,
     local: Local,
-) -> Result<(), AllocError>
+) -> Result<Moment, AllocError>
     requires rises { Rises moment_cmp (starts_in event.now.start held.old) }
     requires time { IsTimeOf zones.zones.now (time_at event.now.start local) }
     requires kept { is_kept rule.now (number local) ≡ true }
@@ -103,17 +111,32 @@ fn hold(
     ensures held { OnOk result (starts_in event.entry.now.start held.new
         ≡ with_held (gives (clocks_in zones.entry) event.entry.now rule.entry.now window (number local))
         (start_at (clocks_in zones.entry) event.entry.now local) (starts_in event.entry.now.start held.old)) }
+    ensures moment { IfOk result (λ moment. moment ≡ instant (clocks_in zones.entry) (time_at event.entry.now.start local)) }
     ensures same { OnErr result (starts_in event.entry.now.start held.new ≡ starts_in event.entry.now.start held.old) }
 {
     let start = start_at(zones, event, local);
     let first = local_of(event.start.stamp);
-    if is_let_through(rule, window, first, local, start.moment) {
-        held.put(Waiting {
-            moment: start.moment,
-            local,
-        })?;
+    if !is_let_through(rule, window, first, local, start.moment) {
+        return Ok(start.moment);
     }
-    Ok(())
+    held.put(Waiting {
+        moment: start.moment,
+        local,
+    })?;
+    Ok(start.moment)
+}
+
+// An instant that is before those of all locals of a day and later ones, of which none is before an
+// instant in seconds. A date is read at its midnight, and a local in UTC is its instant.
+fn settled_by(start: Stamp, day: i32, next: Moment) -> Moment
+    requires { year_seconds 0 ≤ℤ next }
+    ensures { result ≡ settled_by start day next }
+{
+    match start {
+        Stamp::Date(_) => Local::at(day, 0).seconds() - 2 * 86_400,
+        Stamp::Utc(_) => next - 1,
+        Stamp::Floating(_) | Stamp::Zoned(_) => next - FAR,
+    }
 }
 
 impl<'a> RuleStarts<'a> {
@@ -125,6 +148,7 @@ impl<'a> RuleStarts<'a> {
     ghost use Rattle.ics_series.specs.RuleStarts.{found, is_ready, steps_left};
     ghost use Rattle.ics_series.specs.FileZones.{IsOwnEvent};
     ghost use Rattle.ics_series.specs.Inner.Marks.{IsCountMark};
+    ghost use Rattle.ics_series.specs.Inner.Quiet.{AreQuiet};
 
     /// The starts by the locals from a given one on. Under COUNT the locals before a mark are not counted again.
     pub(crate) fn new(
@@ -165,6 +189,7 @@ impl<'a> RuleStarts<'a> {
             end,
             next,
             held: Queue::new(alloc),
+            beyond: Moment::MAX,
         }
     }
 
@@ -179,17 +204,12 @@ impl<'a> RuleStarts<'a> {
         }
     }
 
-    // An instant that is before those of all locals to be read. A date is read at its midnight, and a
-    // local in UTC is its instant.
+    // An instant that is before those of all locals to be read.
     fn settled(&self) -> Moment
         ensures { result ≡ settled_in self.now }
     {
         let event = self.event;
-        match event.start.stamp {
-            Stamp::Date(_) => Local::at(self.day, 0).seconds() - 2 * 86_400,
-            Stamp::Utc(_) => self.next - 1,
-            Stamp::Floating(_) | Stamp::Zoned(_) => self.next - FAR,
-        }
+        settled_by(event.start.stamp, self.day, self.next)
     }
 
     // Whether the first held start is before all starts that later locals give.
@@ -247,7 +267,7 @@ impl<'a> RuleStarts<'a> {
             }
             Some(local) => {
                 let seconds = local.seconds();
-                hold(
+                let moment = hold(
                     &mut self.held,
                     self.zones,
                     self.event,
@@ -259,6 +279,7 @@ impl<'a> RuleStarts<'a> {
                 self.day = local.day;
                 self.asked = local.day + 1;
                 self.next = seconds + 1;
+                self.beyond = lesser_past(self.window.to, self.beyond, moment);
                 Ok(())
             }
         }
@@ -303,6 +324,22 @@ impl<'a> RuleStarts<'a> {
         match self.first() {
             None => settled,
             Some(first) => first.moment.min(settled),
+        }
+    }
+
+    /// An instant before which no local after DTSTART gives a start, of those from the first that was read
+    /// on and at the window's end or later, whatever the window.
+    pub(crate) fn quiet(&self) -> Moment
+        ensures { AreQuiet (clocks_in self.now.zones) self.now.event.now self.now.rule self.now.window (number self.now.from) result }
+    {
+        let event = self.event;
+        match self.rule.until_moment() {
+            Some(until) if until < self.window.to => Moment::MAX,
+            _ => {
+                let next = self.cursor.quiet(&self.rule);
+                self.beyond
+                    .min(settled_by(event.start.stamp, next.day, next.seconds()))
+            }
         }
     }
 

@@ -1,11 +1,13 @@
 //! The occurrences of one event that meet a window, found one by one.
 ghost use Rattle.std.specs.Prelude.{◌≡◌, ◌≤ℤ◌, slice_get, All, IfOk, List, MatchOption, None, OnOk};
+ghost use Rattle.ics_fields.specs.Locals.{number};
 ghost use Rattle.ics_series.specs.Entry.{entry_cmp};
 ghost use Rattle.ics_series.specs.EventLaws.{own-event-prop};
 ghost use Rattle.ics_series.specs.Exclusions.{AreExclusions};
 ghost use Rattle.ics_series.specs.Found.{moment_cmp, IsStartIn};
 ghost use Rattle.ics_series.specs.Listing.{IsIn};
 ghost use Rattle.ics_series.specs.Inner.Marks.{IsMarkOf};
+ghost use Rattle.ics_series.specs.Inner.Quiet.{AreQuiet};
 ghost use Rattle.ics_series.specs.Merged.{cut};
 ghost use Rattle.ics_series.specs.Rising.{Rises, Rises-prop};
 ghost use Rattle.ics_series.specs.RuleFeed.{starts_left};
@@ -17,7 +19,7 @@ ghost use Rattle.ics_series.specs.declared.start.Start.{Start};
 
 use crate::exclusion::Exclusions;
 use crate::feed::{Begins, Coming, Feed};
-use crate::listed::push_listed;
+use crate::listed::{listed_again, push_listed};
 use crate::listed_starts::ListedStarts;
 use crate::mark::{Mark, counted};
 use crate::occurrence::Occurrence;
@@ -173,10 +175,22 @@ fn listed_from(listed: &ListedStarts) -> Moment
     }
 }
 
+// An instant before which no local after DTSTART gives a start, of those from the first that was read on and
+// at the window's end or later.
+fn rule_quiet(rule: &Option<RuleStarts<'_>>) -> Moment
+    ensures { MatchOption rule.now (Unit {0}) (λ s. AreQuiet (clocks_in s.zones) s.event.now s.rule s.window (number s.from) result) }
+{
+    match rule {
+        None => Moment::MAX,
+        Some(starts) => starts.quiet(),
+    }
+}
+
 impl<'a> Series<'a> {
-    ghost use Rattle.std.specs.Prelude.{IfOk, OnErr};
+    ghost use Rattle.std.specs.Prelude.{[], false, IfOk, OnErr};
     ghost use Rattle.std.specs.Option.{option_map};
     ghost use Rattle.ics_series.specs.Entry.{Entry, entry_of};
+    ghost use Rattle.ics_series.specs.Inner.Quiet.{IsQuietTo};
     ghost use Rattle.ics_series.specs.Listing.{IsListing};
     ghost use Rattle.ics_series.specs.SeriesFeed.{series_left, series_near, series_of, series_sources, source_of, IsSameSeries};
     ghost use Rattle.ics_series.specs.SeriesStarts.{wanted_by, IsSeriesMet, IsTaken};
@@ -209,6 +223,40 @@ impl<'a> Series<'a> {
             rule_starts,
             listed: ListedStarts::new(alloc, listed)?,
         })
+    }
+
+    // The first start still to come.
+    fn peek(&mut self) -> Result<Option<Start>, AllocError>
+        ensures left { series_left self.new ≡ series_left self.old }
+        ensures same { IsSameSeries self.old self.new }
+        ensures first { IfOk result (λ first. first ≡ slice_get (series_left self.new) 0) }
+    {
+        let ruled = peek_rule(&mut self.rule_starts)?;
+        Ok(earlier_of(ruled, self.listed.peek()))
+    }
+
+    /// Drops the starts that give no occurrence, up to the first that gives one. Whether there is one.
+    pub(crate) fn settle(&mut self) -> Result<bool, AllocError>
+        ensures coming { series_of self.new (series_left self.new) ≡ series_of self.old (series_left self.old) }
+        ensures same { IsSameSeries self.old self.new }
+        ensures none { IfOk result (λ some. some ≡ false → series_of self.new (series_left self.new) ≡ []) }
+    {
+        while let Some(start) = self.peek()? {
+            if self.wanted(start).is_some() {
+                return Ok(true);
+            }
+            self.take()?;
+        }
+        Ok(false)
+    }
+
+    /// An instant before which no occurrence begins, of those that begin at the window's end or later and are
+    /// of the series.
+    pub(crate) fn quiet(&self) -> Moment
+        ensures { IsQuietTo (clocks_in self.now.zones) self.now.event.now self.now.window self.now.since result }
+    {
+        let listed = listed_again(self.zones, self.event, self.window.to);
+        listed.min(rule_quiet(&self.rule_starts))
     }
 
     // Takes the first start still to come.

@@ -1,8 +1,8 @@
-//! When the events of a folder that start once are.
+//! When the events of a folder are.
 ghost use Rattle.std.specs.Prelude.{◌≡◌, map, IfOk, IsSome};
 ghost use Rattle.ics_event.specs.Event.{said_by};
 ghost use Rattle.ics_series.specs.Clocks.{display_clock};
-ghost use Rattle.ics_series.specs.Inner.Spans.{can_meet, is_out, span_at};
+ghost use Rattle.ics_series.specs.Inner.Spans.{can_meet, is_out, span_at, IsSpanPut};
 ghost use Rattle.ics_series.specs.Spots.{event_at};
 ghost use Rattle.ics_series.specs.Versions.{seen, AreChosen};
 
@@ -15,7 +15,7 @@ use ics_values::Moment;
 use ics_zone::Display;
 use std::alloc::{AllocError, Global};
 
-/// From when to when an event is. One that recurs may be at any time.
+/// From when to when an event is. One that recurs may be at any time, until it is known from when on it is.
 #[derive(Clone, Copy)]
 pub(crate) struct Span {
     pub(crate) first: Moment,
@@ -77,6 +77,15 @@ fn span_at(files: &[FileEvents], display: &Display, version: &Version<'_>, windo
                 last: occurrence.finish,
             }
         }
+    }
+}
+
+/// Puts a span at a place, if there is one there.
+pub(crate) fn put_span(spans: &mut Vec<Span>, place: usize, span: Span)
+    ensures { IsSpanPut spans.old.items place span spans.new.items }
+{
+    if place < spans.len() {
+        spans[place] = span;
     }
 }
 

@@ -1,5 +1,5 @@
 -- The lists of the versions that count and whose events recur, one for each.
-use Rattle.std.specs.Prelude.{◌≡◌, ◌<ℤ◌, ◌≤ℤ◌, ◌++◌, ℕ, ℤ, int_le, true, false, List, map, Option, Some}
+use Rattle.std.specs.Prelude.{◌≡◌, ◌⊎◌, [], ◌<ℤ◌, ◌≤ℤ◌, ◌++◌, ℕ, ℤ, int_le, true, false, List, map, Option, Some}
 use Rattle.std.specs.List.{AllByRecursion}
 use Rattle.ics_event.specs.Event.{FileSaid}
 use Rattle.ics_event.specs.declared.event.Event.{Event}
@@ -44,13 +44,13 @@ pub record IsOneOf (files : List FileSaid) (display : Clock) (w : Window) (after
   pub stands : IsIn label labels
   pub listing : IsListing entry_cmp (IsOfVersion files display w after label) list
 
--- the list of a version is among these
+-- the list of a version is among these, or has nothing
 pub record HasList (files : List FileSaid) (display : Clock) (w : Window) (after : Option Rank) (lists : List (List Entry)) (label : Label) : Type 0 where
   pub list : List Entry
-  pub stands : IsIn list lists
+  pub stands : (list ≡ []) ⊎ IsIn list lists
   pub listing : IsListing entry_cmp (IsOfVersion files display w after label) list
 
--- these lists are those of the occurrences of the versions whose events recur, one for each
+-- these lists are those of the occurrences of versions whose events recur, one for each that has any
 pub record AreLists (files : List FileSaid) (display : Clock) (w : Window) (after : Option Rank) (labels : List Label) (lists : List (List Entry)) : Type
     0 where
   pub each : AllByRecursion (IsOneOf files display w after labels) lists

@@ -1,5 +1,5 @@
 use Rattle.std.proofs.lemmas.Grind.{common_steps}
-use Rattle.std.proofs.Common.{◌≡◌, [], ◌∷◌, ◌++◌, Vec, Global, Option, map, get_or, option_map, refl, sym, subst, ap, ◌∙◌, arith, append-nil}
+use Rattle.std.proofs.Common.{◌≡◌, ◌≤ℤ◌, [], ◌∷◌, ◌++◌, Vec, Global, Option, None, map, get_or, option_map, refl, sym, subst, ap, ◌∙◌, arith, append-nil}
 use Rattle.std.specs.List.{flat_map}
 use Rattle.std.proofs.lemmas.List.{map-append}
 use Rattle.std.proofs.lemmas.List.Concat.{flat_map-append}
@@ -11,20 +11,51 @@ use Rattle.ics_series.specs.declared.mark.Mark.{Mark}
 use Rattle.ics_series.specs.declared.part.Part.{Part}
 use Rattle.ics_series.specs.declared.part.Part.TheVariants as part
 use Rattle.ics_series.specs.declared.series.Series.{Series}
+use Rattle.ics_series.specs.declared.span.Span.{Span}
 use Rattle.ics_series.specs.AgendaParts.{part_coming, part_sources}
+use Rattle.ics_series.specs.Entry.{key_rank}
 use Rattle.ics_series.specs.Inner.Marks.{AreMarks}
+use Rattle.ics_series.specs.Inner.Spans.{is_out, AreMovedOn}
 use Rattle.ics_series.specs.SeriesFeed.{series_left, series_of, series_sources}
 use Rattle.ics_series.proofs.MarkLemmas.{mark-of, marks-put, own-mark}
 use Rattle.ics_series.proofs.OverrideLemmas.{any_version}
-use Rattle.ics_series.proofs.SourceLemmas.{lists-none, versions-all, versions-more, versions-skip, sources-all, sources-more, sources-none, sources-skip}
-use Rattle.ics_series.proofs.SpanLemmas.{out-at, out-once}
+use Rattle.ics_series.proofs.SourceLemmas.{lists-none, versions-all, versions-more, versions-none, versions-skip, sources-all, sources-more, sources-none}
+use Rattle.ics_series.proofs.SourceLemmas.{sources-skip}
+use Rattle.ics_series.proofs.SpanLemmas.{moved-both, moved-here, moved-none, out-version, same-sources, series-moved}
 use Rattle.ics_series.proofs.masters.push_series.Goals as goal
-use Rattle.ics_series.proofs.masters.push_series.Goals.{in-Some+in_ok-new+in_ok-push, in_default}
+use Rattle.ics_series.proofs.masters.push_series.Goals.{After-move_on, in-Some+in_ok-move_on+in_ok-new+in_ok-push, in_default}
+
+-- the spans after a version's own was moved on, or could not be
+moved-on : (c : After-move_on) → AreMovedOn (map said_by c.args.files.now) (display_clock c.args.display.now) c.args.window (map seen c.args.chosen.now)
+    c.args.spans.now.items c.move_on.new.spans.items
+moved-on c =
+    let vs = c.args.chosen.now in
+    let k = c.loop-place.place in
+    let v = get_or c.args.chosen.now c.loop-place.place any_version in
+    let there = slice_get-get_or vs k any_version c.loop-place-test.true in
+    let files = map said_by c.args.files.now in
+    let display = display_clock c.args.display.now in
+    let m = MatchOption-at_some _ _ c.in-Some.series c.in-Some.is (c.in_ok-series.ensures.sources v there) in
+    let listing = MatchOption-at_some _ _ c.in-Some.series c.in-Some.is (c.in_ok-series.ensures.series v there) in
+    let early : option_map (λ key. key_rank key.now) c.args.after ≡ None → c.in-Some.series.since ≤ℤ c.in-Some.series.window.from =
+    λ e. MatchOption-at_some _ _ c.in-Some.series c.in-Some.is (c.in_ok-series.ensures.since e) in
+    moved-both files display c.args.window (map seen vs) c.loop-place.invariant.spans
+    (series-moved files display c.args.window vs k there c.in-Some.series m.1 m.2 early listing c.move_on.ensures.spans)
+
+pub returns-in_err-move_on-clause-spans : goal.returns-in_err-move_on-clause-spans
+returns-in_err-move_on-clause-spans c = moved-on (goal.at.returns-in_err-move_on-clause-spans c).After-move_on
+
+pub returns-in_err-new-clause-spans : goal.returns-in_err-new-clause-spans
+returns-in_err-new-clause-spans c = moved-on (goal.at.returns-in_err-new-clause-spans c).After-move_on
+
+pub returns-in_err-push-clause-spans : goal.returns-in_err-push-clause-spans
+returns-in_err-push-clause-spans c = moved-on (goal.at.returns-in_err-push-clause-spans c).After-move_on
 
 pub loop-place-init : goal.loop-place-init
 loop-place-init c = record {
   lists = lists-none (map part_coming c.args.parts.now.items);
   sources = sources-none (flat_map part_sources c.args.parts.now.items);
+  spans = moved-none (map said_by c.args.files.now) (display_clock c.args.display.now) c.args.window (map seen c.args.chosen.now) refl;
   marks = c.requires.marks;
 }
 
@@ -37,35 +68,53 @@ loop-place-preserved c =
     record {
       sources =
           elim c.match-branch-2.branch [
-            | in-Some+in_ok-new+in_ok-push w ↦
-                let value : w.in_ok-new.field-0.value ≡ w.in-Some.series = w.in_ok-new.ensures.ok in
+            | in-Some+in_ok-move_on+in_ok-new+in_ok-push w ↦
+                let value : w.in_ok-new.field-0.value ≡ w.move_on.new.series = w.in_ok-new.ensures.ok in
                 let m = MatchOption-at_some _ _ w.in-Some.series w.in-Some.is (c.in_ok-series.ensures.sources v there) in
                 sources-more c.requires.chosen k there c.loop-place.invariant.sources m.1
                 (ap (λ (p : Vec Part Global). flat_map part_sources p.items) w.parts-is ∙ (ap (flat_map part_sources) (w.in_ok-push.ensures.items)
                 ∙ (flat_map-append part_sources c.loop-place.parts.items (part.Series w.in_ok-new.field-0 ∷ [])
                 ∙ ap (λ xs. flat_map part_sources c.loop-place.parts.items ++ xs) (append-nil (series_sources w.in_ok-new.field-0.value)
-                ∙ (ap series_sources value ∙ m.2)))))
+                ∙ (ap series_sources value ∙ (same-sources w.move_on.ensures.same ∙ m.2))))))
             | in_default w ↦
                 sources-skip c.requires.chosen k there c.loop-place.invariant.sources
                 (ap (λ (p : Vec Part Global). flat_map part_sources p.items) w.parts-is)
           ];
       lists =
           elim c.match-branch-2.branch [
-            | in-Some+in_ok-new+in_ok-push w ↦
-                let value : w.in_ok-new.field-0.value ≡ w.in-Some.series = w.in_ok-new.ensures.ok in
+            | in-Some+in_ok-move_on+in_ok-new+in_ok-push w ↦
+                let value : w.in_ok-new.field-0.value ≡ w.move_on.new.series = w.in_ok-new.ensures.ok in
                 versions-more vs k there c.loop-place.invariant.lists
                 (MatchOption-at_some _ _ w.in-Some.series w.in-Some.is (c.in_ok-series.ensures.series v there))
                 (ap (λ (p : Vec Part Global). map part_coming p.items) w.parts-is ∙ (ap (map part_coming) w.in_ok-push.ensures.items
                 ∙ (map-append part_coming c.loop-place.parts.items (part.Series w.in_ok-new.field-0 ∷ [])
-                ∙ ap (λ (s : Series). map part_coming c.loop-place.parts.items ++ series_of s (series_left s) ∷ []) value)))
+                ∙ ap (λ xs. map part_coming c.loop-place.parts.items ++ xs ∷ [])
+                (ap (λ (s : Series). series_of s (series_left s)) value ∙ w.move_on.ensures.coming))))
             | in_default w ↦
                 versions-skip vs k there c.loop-place.invariant.lists
                 (MatchOption-at_none _ _ w.in_default.is (c.in_ok-series.ensures.series v there))
                 (ap (λ (p : Vec Part Global). map part_coming p.items) w.parts-is)
           ];
+      spans =
+          elim c.match-branch-2.branch [
+            | in-Some+in_ok-move_on+in_ok-new+in_ok-push w ↦
+                let files = map said_by c.args.files.now in
+                let display = display_clock c.args.display.now in
+                let m = MatchOption-at_some _ _ w.in-Some.series w.in-Some.is (c.in_ok-series.ensures.sources v there) in
+                let listing = MatchOption-at_some _ _ w.in-Some.series w.in-Some.is (c.in_ok-series.ensures.series v there) in
+                let early : option_map (λ key. key_rank key.now) c.args.after ≡ None → w.in-Some.series.since ≤ℤ w.in-Some.series.window.from =
+                λ e. MatchOption-at_some _ _ w.in-Some.series w.in-Some.is (c.in_ok-series.ensures.since e) in
+                let moved = series-moved files display c.args.window vs k there w.in-Some.series m.1 m.2 early listing w.move_on.ensures.spans in
+                subst (AreMovedOn files display c.args.window (map seen vs) c.args.spans.now.items)
+                (sym (ap (λ (p : Vec Span Global). p.items) w.spans-is))
+                (moved-both files display c.args.window (map seen vs) c.loop-place.invariant.spans moved)
+            | in_default w ↦
+                subst (AreMovedOn (map said_by c.args.files.now) (display_clock c.args.display.now) c.args.window (map seen vs) c.args.spans.now.items)
+                (sym (ap (λ (p : Vec Span Global). p.items) w.spans-is)) c.loop-place.invariant.spans
+          ];
       marks =
           elim c.match-branch-2.branch [
-            | in-Some+in_ok-new+in_ok-push w ↦
+            | in-Some+in_ok-move_on+in_ok-new+in_ok-push w ↦
                 let m = MatchOption-at_some _ _ w.in-Some.series w.in-Some.is (c.in_ok-series.ensures.sources v there) in
                 subst (AreMarks (map said_by c.args.files.now) (map seen c.args.chosen.now)) (sym (ap (λ (p : Vec (Option Mark) Global). p.items) w.marks-is))
                 (marks-put (map said_by c.args.files.now) (map seen vs) k w.mark-begun.result c.loop-place.marks.items _ c.loop-place.invariant.marks
@@ -84,25 +133,30 @@ loop-place-preserved-then-is_out c =
     let v = get_or c.args.chosen.now c.loop-place.place any_version in
     let there = slice_get-get_or vs k any_version c.loop-place-test.true in
     let at = slice_get-map seen vs k ∙ ap (option_map seen) there in
-    let out = out-at (map said_by c.args.files.now) (display_clock c.args.display.now) c.args.window (map seen c.args.chosen.now) c.requires.spans k at
-    (sym c.is_out.ensures ∙ c.if-is_out.true) in
-    let none = out-once out.0 c.args.window out.1 (map said_by c.args.files.now) (display_clock c.args.display.now) (seen v) out.2 in
+    let files = map said_by c.args.files.now in
+    let display = display_clock c.args.display.now in
+    let are = moved-here files display c.args.window (map seen vs) c.loop-place.invariant.spans c.requires.spans in
+    let none = out-version files display c.args.window (map seen vs) c.loop-place.spans.items are k at
+    (ap (λ xs. is_out xs k c.args.window) (sym c.deref.ensures.value) ∙ (sym c.is_out.ensures ∙ c.if-is_out.true))
+    (option_map (λ key. key_rank key.now) c.args.after) in
     record {
-      lists = versions-skip vs k there c.loop-place.invariant.lists none refl;
+      lists = versions-none vs k there c.loop-place.invariant.lists none refl;
       sources = sources-skip c.requires.chosen k there c.loop-place.invariant.sources refl;
+      spans = c.loop-place.invariant.spans;
       marks = c.loop-place.invariant.marks;
     }
 
 pub series_at-requires-clause-mark : goal.series_at-requires-clause-mark
 series_at-requires-clause-mark c =
     mark-of (map said_by c.args.files.now) (map seen c.args.chosen.now) c.args.chosen.now refl c.loop-place.place c.mark_at-mark.result c.loop-place.marks.items
-    c.loop-place.invariant.marks (rw c.deref.ensures.value at c.mark_at-mark.ensures)
+    c.loop-place.invariant.marks (rw c.deref-in-loop-place.ensures.value at c.mark_at-mark.ensures)
 
 pub returns : goal.returns
 returns c =
     record {
       lists = versions-all c.args.chosen.now c.loop-place.place c.loop-place-test.false c.loop-place.invariant.lists;
       sources = sources-all c.requires.chosen c.loop-place.place c.loop-place-test.false c.loop-place.invariant.sources;
+      spans = c.loop-place.invariant.spans;
       marks = c.loop-place.invariant.marks;
     }
 

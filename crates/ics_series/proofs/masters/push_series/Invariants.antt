@@ -5,11 +5,12 @@ use Rattle.ics_series.specs.Clocks.{display_clock}
 use Rattle.ics_series.specs.Entry.{key_rank}
 use Rattle.ics_series.specs.Inner.Marks.{AreMarks}
 use Rattle.ics_series.specs.Inner.Masters.{HasLists, HasSources}
+use Rattle.ics_series.specs.Inner.Spans.{AreMovedOn}
 use Rattle.ics_series.specs.AgendaParts.{part_coming, part_sources}
 use Rattle.ics_series.specs.Versions.{seen}
 use Rattle.ics_series.proofs.masters.push_series.Given as goal
 
--- the lists of the versions so far have been added, and the marks are those of the versions
+-- the lists of the versions so far have been added, and the spans and marks are those of the versions
 abbrev pub invariant-loop-place : goal.invariant-loop-place
 invariant-loop-place l = record {
   lists :
@@ -18,5 +19,6 @@ invariant-loop-place l = record {
   sources :
       HasSources (map said_by l.files) (display_clock l.display) l.window (option_map (λ key. key_rank key.now) l.after) (map seen (take l.place l.chosen))
       (flat_map part_sources l.initial.parts.items) (flat_map part_sources l.parts.items);
+  spans : AreMovedOn (map said_by l.files) (display_clock l.display) l.window (map seen l.chosen) l.initial.spans.items l.spans.items;
   marks : AreMarks (map said_by l.files) (map seen l.chosen) l.marks.items;
 }

@@ -1,16 +1,19 @@
-use Rattle.std.proofs.Common.{◌≡◌, ◌∙◌, rules, get_or, map, w64, to_z, of_z, refl, sym, ap, subst, option_map}
+use Rattle.std.proofs.Common.{◌≡◌, ◌≤ℤ◌, arith, ◌∙◌, rules, get_or, map, w64, to_z, of_z, refl, sym, ap, subst, option_map}
+use Rattle.std.proofs.lemmas.Int.{ints}
 use Rattle.std.proofs.lemmas.Option.{get_or_from_slice_get, slice_get-get_or}
 use Rattle.ics_event.specs.Event.{said_by, IsEventOf}
 use Rattle.ics_event.specs.declared.event.Event.{Event}
 use Rattle.ics_series.specs.Clocks.{display_clock}
 use Rattle.ics_series.specs.Entry.{key_rank}
 use Rattle.ics_series.specs.Inner.Masters.{Recurs}
-use Rattle.ics_series.specs.Sources.{IsFrom}
+use Rattle.ics_series.specs.Sources.{IsFrom, Recurring}
+use Rattle.ics_series.specs.declared.window.Window.{Window}
 use Rattle.ics_series.specs.Versions.{seen}
 use Rattle.ics_series.specs.FileZones.{clocks_in}
 use Rattle.ics_series.proofs.VersionLemmas.{stands}
 use Rattle.ics_series.proofs.OverrideLemmas.{any_version}
 use Rattle.ics_series.proofs.RecurringLemmas.{IsRead, not-single, series-listing}
+use Rattle.ics_series.proofs.SpanLemmas.{first_source}
 use Rattle.ics_series.proofs.ZoneLemmas.{own-event}
 use Rattle.ics_series.proofs.masters.series_at.Goals as goal
 
@@ -20,6 +23,7 @@ event-event-requires c = stands c.args.place any_version c.requires.chosen
 
 pub returns-then-is_single : goal.returns-then-is_single
 returns-then-is_single c = record {
+  since = λ none. tt;
   sources = λ version there. tt;
   series = λ version there.
       not-single (get_or_from_slice_get c.args.chosen.now c.args.place version any_version there) c.event-event.ensures.event
@@ -50,6 +54,15 @@ returns c =
       series = λ version there.
           rw (← get_or_from_slice_get c.args.chosen.now c.args.place version any_version there)
           (series-listing r read c.args.window after (to_z w64 (of_z w64 c.since_of-since.result)) since c.in_ok-series.ensures.listing);
+      since = λ none.
+          let first = ap
+          (first_source (record
+          { clocks = clocks_in c.zones-zones.result; event = c.event-event.result.now; window = c.args.window; since = c.args.window.from }))
+          c.in_ok-series.ensures.sources in
+          let same = ap (λ (r : Recurring). r.since) first in
+          let always = c.since_of-since.ensures.always none in
+          subst (λ (x : Window). c.in_ok-series.series.since ≤ℤ x.from) (sym (ap (λ (r : Recurring). r.window) first))
+          (omega (arith, ints, same, fits, always, c.args.window.not_early));
       sources = λ version there. (
         record {
           clocks = clocks_in c.zones-zones.result;

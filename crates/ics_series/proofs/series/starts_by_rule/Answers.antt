@@ -44,6 +44,7 @@ returns c =
         window_is = c.new.ensures.window;
         day = rw c.new.ensures.from c.first_nearby-from.ensures.day;
         late = rw (c.new.ensures.from, ← first, ← local, ← back) c.first_nearby-from.ensures.late;
+        low = rw (c.new.ensures.from, ← first, ← local, ← back) c.first_nearby-from.ensures.low;
       };
       from = record {
         rule = c.new-rule.result;

@@ -7,7 +7,7 @@ use Rattle.ics_series.specs.Entry.{key_rank}
 use Rattle.ics_series.specs.Singles.{single_at, single_entry}
 use Rattle.ics_series.specs.Versions.{seen}
 use Rattle.ics_series.proofs.OverrideLemmas.{any_version}
-use Rattle.ics_series.proofs.SpanLemmas.{out-at, out-none, picked-skip}
+use Rattle.ics_series.proofs.SpanLemmas.{out-none, picked-skip}
 use Rattle.ics_series.proofs.VersionLemmas.{stands}
 use Rattle.ics_series.proofs.singles.to_come.Goals as goal
 
@@ -26,9 +26,10 @@ loop-place-preserved-then-is_out c =
     let after = option_map (λ key. key_rank key.now) c.args.after in
     let v = get_or c.args.chosen.now c.loop-place.place any_version in
     let there = slice_get-map seen vs k ∙ ap (option_map seen) (slice_get-get_or vs k any_version c.loop-place-test.true) in
-    let out = out-at files display c.args.window.now (map seen c.args.chosen.now) c.requires.spans k there (sym c.is_out.ensures ∙ c.if-is_out.true) in
     picked-skip (single_at files display c.args.window.now os after) vs k any_version (map single_entry c.loop-place.singles.items) c.loop-place-test.true
-    (out-none out.0 c.args.window.now out.1 files display (seen v) out.2 os after) c.loop-place.invariant
+    (out-none files display c.args.window.now (map seen c.args.chosen.now) c.args.spans.now c.requires.spans k there
+    (sym c.is_out.ensures ∙ c.if-is_out.true) os after)
+    c.loop-place.invariant
 
 pub loop-place-preserved-in_default : goal.loop-place-preserved-in_default
 loop-place-preserved-in_default c = grind (arith, common_steps)

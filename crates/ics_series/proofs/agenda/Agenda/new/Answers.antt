@@ -1,4 +1,4 @@
-use Rattle.std.proofs.Common.{map, inl, option_map, sym, subst, ◌∙◌}
+use Rattle.std.proofs.Common.{map, option_map, sym, subst}
 use Rattle.std.proofs.lemmas.Result.{IfOk-weaker}
 use Rattle.ics_event.specs.Event.{said_by}
 use Rattle.ics_series.specs.Clocks.{display_clock}
@@ -7,6 +7,7 @@ use Rattle.ics_series.specs.Inner.Marks.{AreMarks}
 use Rattle.ics_series.specs.Versions.{seen}
 use Rattle.ics_series.proofs.MarkLemmas.{no-marks}
 use Rattle.ics_series.proofs.SinglesLemmas.{behind-key}
+use Rattle.ics_series.proofs.SpanLemmas.{no-spans}
 use Rattle.ics_series.proofs.WholeLemmas.{keys, whole}
 use Rattle.ics_series.proofs.agenda.Agenda.new.Goals as goal
 
@@ -14,7 +15,8 @@ pub of-requires-clause-chosen : goal.of-requires-clause-chosen
 of-requires-clause-chosen c = rw c.deref.ensures.value c.in_ok-chosen.ensures.chosen
 
 pub of-requires-clause-spans : goal.of-requires-clause-spans
-of-requires-clause-spans c = inl (c.deref-2.ensures.value ∙ c.new-spans.ensures.items)
+of-requires-clause-spans c =
+    no-spans (map said_by c.args.files.now) (display_clock c.args.display.now) c.args.window (map seen c.deref.result.now) c.new-spans.ensures.items
 
 pub of-requires-clause-marks : goal.of-requires-clause-marks
 of-requires-clause-marks c =

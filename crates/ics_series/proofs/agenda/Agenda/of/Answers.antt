@@ -16,7 +16,7 @@ use Rattle.ics_series.proofs.SourceLemmas.{sources-behind}
 use Rattle.ics_series.proofs.agenda.Agenda.of.Goals as goal
 
 pub new-requires-clause-overrides : goal.new-requires-clause-overrides
-new-requires-clause-overrides c = ap (map seen) c.deref.ensures.value ∙ c.in_ok-overrides.ensures
+new-requires-clause-overrides c = ap (map seen) c.deref-2.ensures.value ∙ c.in_ok-overrides.ensures
 
 pub of_sorted-requires : goal.of_sorted-requires
 of_sorted-requires c =
@@ -52,5 +52,6 @@ returns c =
           (sym c.in_ok-merge.ensures.coming)
           (pushed-listing files display c.args.window after c.in_ok-overrides.overrides.items singles c.requires.chosen c.in_ok-overrides.ensures
           c.in_ok-singles.ensures pushed);
+      spans = c.push_series.ensures.spans;
       marks = c.push_series.ensures.marks;
     }

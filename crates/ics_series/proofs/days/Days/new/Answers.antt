@@ -1,5 +1,6 @@
-use Rattle.std.proofs.Common.{rules, ◌≡◌, map, refl, ap, arith, to_z, of_z, w32, ◌≤ℤ◌, option_map}
+use Rattle.std.proofs.Common.{rules, ◌≡◌, ◌∙◌, length, map, refl, ap, arith, to_z, of_z, w32, ◌≤ℤ◌, option_map}
 use Rattle.std.proofs.lemmas.Int.{ints}
+use Rattle.std.proofs.lemmas.List.{length-map}
 use Rattle.ics_event.specs.Event.{said_by}
 use Rattle.ics_zone.specs.Inner.Near.{offset_near}
 use Rattle.ics_series.specs.Ahead.{agenda_coming}
@@ -50,11 +51,13 @@ invariant_of-result c =
     let fits : to_z w32 (of_z w32 c.begin-day.result.0) ≡ c.begin-day.result.0 = search rules in
     let low = c.begin-day.ensures.begins.low in
     let behind = rw (← fits) at c.begin-day.ensures.behind in
+    let spanned = rw c.deref.ensures.value at c.in_ok-spans.ensures in
     let first : first_near c.args.window ≤ℤ to_z w32 (of_z w32 c.begin-day.result.0) = omega (arith, ints, low, fits) in
     let from = rw (← c.day_and_start.ensures) at (from-start after (to_z w32 (of_z w32 c.begin-day.result.0)) key behind) in
     record {
       chosen = those-chosen (map said_by c.args.files.now) (display_clock c.args.display.now) c.in_ok-versions.versions.items c.in_ok-versions.ensures.chosen;
-      spanned = rw c.deref.ensures.value at c.in_ok-spans.ensures;
+      sized = c.agenda_of.ensures.size ∙ (ap length spanned ∙ (length-map _ _ ∙ length-map _ _));
+      spanned = rw c.deref-2.ensures.value at c.agenda_of.ensures.spans;
       marked = rw c.deref-2.ensures.value at c.agenda_of.ensures.marks;
       not_before = first;
       begun = rw c.day_and_start.ensures (begun-by c.args.window after (to_z w32 (of_z w32 c.begin-day.result.0)) key behind first);

@@ -1,7 +1,7 @@
-use Rattle.std.proofs.Common.{◌≡◌, ◌<ℤ◌, map, None, inr, arith, rules, to_z, of_z, w32}
+use Rattle.std.proofs.Common.{◌≡◌, ◌∙◌, ◌<ℤ◌, map, None, arith, rules, to_z, of_z, w32}
 use Rattle.std.proofs.Math.Bridge.{le_prop}
 use Rattle.std.proofs.Math.Logic.{∥∥₁_elim}
-use Rattle.std.proofs.lemmas.Int.{int_min_is, ints}
+use Rattle.std.proofs.lemmas.Int.{ints}
 use Rattle.ics_event.specs.Event.{said_by}
 use Rattle.ics_zone.specs.Inner.Near.{offset_near}
 use Rattle.ics_series.specs.Ahead.{agenda_coming}
@@ -9,7 +9,7 @@ use Rattle.ics_series.specs.Clocks.{display_clock}
 use Rattle.ics_series.specs.DaySteps.{agenda_sources, scope_in}
 use Rattle.ics_series.specs.Sources.{recurring}
 use Rattle.ics_series.proofs.AheadLemmas.{ahead-turned, from-later, looked-next, searched-masters}
-use Rattle.ics_series.proofs.SpanLemmas.{chosen-back, none-between}
+use Rattle.ics_series.proofs.SpanLemmas.{after-next, after-same, chosen-back, none-between}
 use Rattle.ics_series.proofs.days.Days.turn.Goals as goal
 
 pub near_day-near-requires : goal.near_day-near-requires
@@ -29,8 +29,32 @@ of-requires-clause-chosen c =
 pub of-requires-clause-spans : goal.of-requires-clause-spans
 of-requires-clause-spans c =
     let self = c.args.self.now in
-    rw (c.deref-2.ensures.value, c.deref-3.ensures.value)
-    (inr (self.window, omega (arith, ints, c.near_day-near.ensures.to, int_min_is), self.spanned))
+    rw c.deref-2.ensures.value
+    (self.spanned (to_z w32 (of_z w32 c.next_day-day.result)) c.near_day-near.result
+    (omega (arith, ints, c.next_day-day.type_inv, c.next_day-day.ensures.later)) c.near_day-near.ensures)
+
+-- no day was turned to, but spans and marks may have been moved on
+pub invariant_of-self : goal.invariant_of-self
+invariant_of-self c =
+    let self = c.args.self.now in
+    let files = map said_by self.files.now in
+    let display = display_clock self.display.now in
+    let moved = rw c.deref-2.ensures.value at c.of.ensures.spans in
+    let same : to_z w32 (of_z w32 c.next_day-day.result) ≡ c.next_day-day.result = omega (arith, ints, c.next_day-day.type_inv) in
+    let fits : to_z w32 (of_z w32 c.args.self.now.today.day) ≡ c.args.self.now.today.day = search rules in
+    let none = rw (fits, ← same, c.deref.ensures.value) at c.next_day-day.ensures.none in
+    record {
+      chosen = self.chosen;
+      sized = moved.size ∙ self.sized;
+      spanned = after-same files display self.window self.versions.items self.sized self.spanned c.near_day-near.ensures moved
+          (chosen-back files display self.versions.items self.chosen) none;
+      marked = rw c.deref-2.ensures.value at c.of.ensures.marks;
+      not_before = self.not_before;
+      begun = self.begun;
+      masters = self.masters;
+      before = self.before;
+      past = self.past;
+    }
 
 pub invariant_of-self-3 : goal.invariant_of-self-3
 invariant_of-self-3 c =
@@ -40,9 +64,14 @@ invariant_of-self-3 c =
     let more = c.requires.more in
     let scope = scope_in (map said_by self.files.now) (display_clock self.display.now) self.window self.after in
     let begun = self.begun in
+    let files = map said_by self.files.now in
+    let display = display_clock self.display.now in
+    let moved = rw c.deref-2.ensures.value at c.of.ensures.spans in
     record {
       chosen = self.chosen;
-      spanned = self.spanned;
+      sized = moved.size ∙ self.sized;
+      spanned = after-next files display self.window self.versions.items self.sized self.spanned c.near_day-near.ensures moved
+          (omega (arith, ints, day, next.ensures.later));
       marked = rw c.deref-2.ensures.value at c.of.ensures.marks;
       not_before = omega (arith, ints, day, next.ensures.later, self.not_before);
       begun = omega (arith, ints, day, next.ensures.later, begun);
@@ -80,5 +109,5 @@ returns-clause-ahead c = λ list a.
     let near = offset_near self.display.now in
     let chosen = chosen-back files display self.versions.items self.chosen in
     ahead-turned files display near self.window later
-    (none-between files display near self.window self.versions.items chosen self.spanned none)
+    (none-between files display near self.window self.versions.items chosen self.spans.items self.sized self.spanned none)
     c.near_day-near.ensures c.requires.none c.in_ok-agenda.ensures.listing a

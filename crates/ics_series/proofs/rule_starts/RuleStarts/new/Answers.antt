@@ -16,6 +16,9 @@ use Rattle.ics_series.specs.Waiting.{start_of, starts_in}
 use Rattle.ics_series.specs.Starts.{local_of}
 use Rattle.ics_series.proofs.StartSourceLemmas.{calendar-day, own-day, rule-first}
 use Rattle.ics_series.proofs.SettledLemmas.{off-range}
+use Rattle.ics_series.specs.FileZones.{clocks_in}
+use Rattle.ics_series.specs.Inner.Quiet.{AreBeyond}
+use Rattle.ics_series.proofs.QuietLemmas.{beyond-begun}
 use Rattle.ics_series.proofs.RuleStepLemmas.{day-back, ends-most, signed-back}
 use Rattle.ics_series.proofs.rule_starts.RuleStarts.new.Goals as goal
 
@@ -60,6 +63,8 @@ invariant_of-result c =
       rises = subst (Rises moment_cmp) (sym (ap (map (start_of c.args.event.now.start)) c.new.ensures)) tt;
       are = λ s m. absurd (subst (IsIn s) (ap (map (start_of c.args.event.now.start)) c.new.ensures) m);
       begins = c.begun-begun.ensures.begun;
+      past_end = subst (λ place. AreBeyond (clocks_in c.args.zones) c.args.event.now c.args.rule w (number c.args.from) place _)
+          (sym c.begun-begun.ensures.begun.place) (beyond-begun (clocks_in c.args.zones) c.args.event.now c.args.rule w (number c.args.from) _);
       own = c.begun-begun.ensures.begun.own;
       looked = subst (λ d. HasLookedTo c.args.rule c.args.from d c.begun-begun.result) (sym asked) c.begun-begun.ensures.looked;
       time = c.requires.event.start;

@@ -21,6 +21,7 @@ invariant_of-self c =
       rises = subst (Rises moment_cmp) (sym e) (rises-drop (held_in s) s.rises);
       are = λ t m. s.are t (in-drop t (held_in s) (subst (IsIn t) e m));
       begins = s.begins;
+      past_end = s.past_end;
       own = s.own;
       looked = s.looked;
       time = s.time;

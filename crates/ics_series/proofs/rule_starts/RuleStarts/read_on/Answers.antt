@@ -1,10 +1,12 @@
-use Rattle.std.proofs.Common.{◌≡◌, refl, sym, subst, arith, rules}
+use Rattle.std.proofs.Common.{◌≡◌, refl, sym, subst, arith, rules, w64, SFits}
+use Rattle.std.proofs.lemmas.Int.{ints}
 use Rattle.ics_series.specs.Found.{moment_cmp}
 use Rattle.ics_series.specs.Rising.{Rises}
 use Rattle.ics_series.specs.RuleStarts.{AreHeld}
 use Rattle.ics_series.specs.FileZones.{clocks_in}
 use Rattle.ics_series.specs.RuleFeed.{held_in}
 use Rattle.ics_series.specs.Waiting.{starts_in}
+use Rattle.ics_series.proofs.QuietLemmas.{beyond-none, beyond-one}
 use Rattle.ics_series.proofs.RuleStepLemmas.{bound-days, bound-early, none-read, one-read, one-time}
 use Rattle.ics_series.proofs.rule_starts.RuleStarts.read_on.Goals as goal
 
@@ -17,6 +19,7 @@ invariant_of-self-in-Break-1 c =
       rises = subst (Rises moment_cmp) (sym same) s.rises;
       are = subst (AreHeld (clocks_in s.zones) s.event.now s.rule s.window s.asked) (sym same) s.are;
       begins = s.begins;
+      past_end = s.past_end;
       own = s.own;
       looked = s.looked;
       time = s.time;
@@ -53,6 +56,7 @@ invariant_of-self c =
       rises = r.rises;
       are = r.are;
       begins = s.begins;
+      past_end = beyond-none s c.in-None.ensures.next;
       own = c.in-None.ensures.own;
       looked = λ before m. c.in-None.ensures.looked _ before (omega (arith, r.before, m)) (s.looked before (omega (arith, r.before, m)));
       time = s.time;
@@ -79,12 +83,16 @@ invariant_of-self-in-Some c =
     let s = c.args.self.now in
     let b = c.bound-bound in
     let r = one-read s b.type_inv b.ensures.later b.ensures.within c.at-to.ensures c.in-Some.local c.in-Some.ensures.day
-    c.in-Some.ensures.next b.ensures.held c.in_ok-hold-in-Some.ensures.held c.seconds-seconds.ensures in
+    c.in-Some.ensures.next b.ensures.held c.in_ok-moment-in-Some.ensures.held c.seconds-seconds.ensures in
+    let moment = c.in_ok-moment-in-Some.ensures.moment in
+    let fits : SFits w64 c.lesser_past-self.result = search rules in
     record {
       of = s.of;
       rises = r.rises;
       are = r.are;
       begins = s.begins;
+      past_end = beyond-one s c.in-Some.local c.in-Some.ensures.next c.in-Some.ensures.day (omega (arith, ints, c.lesser_past-self.ensures.first))
+          (λ past. let late = c.lesser_past-self.ensures.second (omega (arith, ints, past, moment)) in omega (arith, ints, late, moment));
       own = c.in-Some.ensures.own;
       looked = λ before m. c.in-Some.ensures.looked _ before (omega (arith, r.before, m)) (s.looked before (omega (arith, r.before, m)));
       time = s.time;
@@ -108,9 +116,9 @@ returns-in-None c =
     c.seconds-midnight.ensures in
     record { same = r.same; source = record { zones = refl; event = refl; window = refl; rule = refl; from = refl; end = refl }; less = r.less }
 
-pub returns-in_ok-hold-in-Some : goal.returns-in_ok-hold-in-Some
-returns-in_ok-hold-in-Some c =
+pub returns-in_ok-moment-in-Some : goal.returns-in_ok-moment-in-Some
+returns-in_ok-moment-in-Some c =
     let b = c.bound-bound in
     let r = one-read c.args.self.now b.type_inv b.ensures.later b.ensures.within c.at-to.ensures c.in-Some.local c.in-Some.ensures.day
-    c.in-Some.ensures.next b.ensures.held c.in_ok-hold-in-Some.ensures.held c.seconds-seconds.ensures in
+    c.in-Some.ensures.next b.ensures.held c.in_ok-moment-in-Some.ensures.held c.seconds-seconds.ensures in
     record { same = r.same; source = record { zones = refl; event = refl; window = refl; rule = refl; from = refl; end = refl }; less = r.less }

@@ -7,24 +7,12 @@ use Rattle.ics_series.specs.Found.{moment_cmp}
 use Rattle.ics_series.specs.Listing.{IsIn}
 use Rattle.ics_series.specs.Merged.{union}
 use Rattle.ics_series.specs.SeriesFeed.{series_left, series_of}
-use Rattle.ics_series.specs.SeriesStarts.{first_of, given_of, left, listed_left, rule_asked, rule_left, HasSameRule, IsAskedNear}
+use Rattle.ics_series.specs.SeriesStarts.{first_of, left, listed_left, rule_asked, rule_left, HasSameRule, IsAskedNear}
 use Rattle.ics_series.specs.FileZones.{clocks_in}
 use Rattle.ics_series.specs.Inner.MergedLaws.{rises-union}
 use Rattle.ics_series.proofs.FirstLemmas.{moment_total}
-use Rattle.ics_series.proofs.SeriesLemmas.{asked-near, both-passed, given-own, own-rule-same, rest-of, rises-listed, rises-rest, rises-rule, ruled-rest}
-use Rattle.ics_series.proofs.SeriesLemmas.{ruled-same}
+use Rattle.ics_series.proofs.SeriesLemmas.{asked-near, both-passed, given-own, own-rule-same, read, rest-of, rises-listed, rises-rest, rises-rule, ruled-rest}
 use Rattle.ics_series.proofs.series.Series.take.Goals as goal
-
--- the series with its rule read on, where the starts that are left stay the same
-abbrev read : (s : Series) (rule : Option RuleStarts) → HasSameRule s.rule_starts rule → rule_left rule ≡ rule_left s.rule_starts → Series
-read s rule same left = record s {
-  rule_starts = rule;
-  known = rw left s.known;
-  ruled = ruled-same (clocks_in s.zones) s.event.now s.rule_starts rule same left
-      (ap (λ xs. given_of (clocks_in s.zones) s.window s.event.now s.since (union moment_cmp xs (listed_left s.listed))) left) s.ruled;
-  own_rule = own-rule-same s.zones s.event.now s.window (first_of (clocks_in s.zones) s.window s.event.now s.since) s.rule_starts rule same s.own_rule;
-  rising = rw left s.rising;
-}
 
 pub invariant_of-self : goal.invariant_of-self
 invariant_of-self c =

@@ -1,0 +1,30 @@
+use Rattle.std.proofs.Common.{◌≡◌, ◌∙◌, sym, arith, rules, w32, w64, to_z, of_z, SFits}
+use Rattle.std.proofs.lemmas.Int.{int_min_is, ints}
+use Rattle.ics_fields.specs.Locals.{local_seconds}
+use Rattle.ics_series.specs.RuleStarts.{settled_by}
+use Rattle.ics_series.proofs.QuietLemmas.{quiet-by, quiet-ended}
+use Rattle.ics_series.proofs.rule_starts.RuleStarts.quiet.Goals as goal
+
+pub settled_by-requires : goal.settled_by-requires
+settled_by-requires c = omega (arith, ints, c.seconds.ensures, c.quiet-next.ensures.day)
+
+pub returns-in-Some : goal.returns-in-Some
+returns-in-Some c =
+    let s = c.args.self.now in
+    quiet-ended s _ (sym c.until_moment.ensures ∙ c.in-Some.is)
+    (omega (arith, ints, c.if-until-self.true, s.window.ordered, s.window.not_early, s.window.not_late))
+
+pub returns-in_default : goal.returns-in_default
+returns-in_default c =
+    let s = c.args.self.now in
+    let next = c.quiet-next.result in
+    let days : SFits w32 c.quiet-next.result.day = search rules in
+    let fits : SFits w64 c.seconds.result = search rules in
+    let least : SFits w64 c.args.self.now.beyond = search rules in
+    let settles : SFits w64 c.settled_by.result = search rules in
+    let day : to_z w32 (of_z w32 c.quiet-next.result.day) ≡ c.quiet-next.result.day = omega (arith, ints) in
+    let seconds : to_z w64 (of_z w64 c.seconds.result) ≡ local_seconds c.quiet-next.result = omega (arith, ints, c.seconds.ensures) in
+    let settled : c.settled_by.result ≡ settled_by c.args.self.now.event.now.start.stamp c.quiet-next.result.day (local_seconds c.quiet-next.result) =
+    c.settled_by.ensures ∙ (λ i. settled_by (c.event.view_is i).start.stamp (day i) (seconds i)) in
+    quiet-by s next c.quiet-next.ensures.none c.quiet-next.ensures.day (omega (arith, ints, int_min_is, c.min.ensures))
+    (omega (arith, ints, int_min_is, c.min.ensures, settled))
