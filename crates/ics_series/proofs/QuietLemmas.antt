@@ -1,8 +1,8 @@
 -- From when on an event can occur again.
-use Rattle.std.proofs.Common.{◌≡◌, ◌⊎◌, ℕ, ◌+◌, ◌<◌, ◌≤◌, ℤ, pos, ◌+ℤ◌, ◌-ℤ◌, ◌<ℤ◌, ◌≤ℤ◌, inl, inr, ⊎_elim, Bool, true, false, ◌&&◌, ◌==◌, max, Option, Some}
+use Rattle.std.proofs.Common.{◌≡◌, ◌⊎◌, ℕ, ◌+◌, ◌<◌, ◌≤◌, ℤ, ◌+ℤ◌, ◌<ℤ◌, ◌≤ℤ◌, inl, inr, true, false, max, Option, Some}
 use Rattle.std.proofs.Common.{None}
-use Rattle.std.proofs.Common.{MatchOption, is_none, option_map, refl, sym, ◌∙◌, ap, subst, arith}
-use Rattle.std.proofs.lemmas.Bool.{and_from, and_parts, cases_lt, eqb-true}
+use Rattle.std.proofs.Common.{MatchOption, is_none, option_map, sym, ◌∙◌, ap, subst, arith}
+use Rattle.std.proofs.lemmas.Bool.{and_from, and_parts, cases_lt}
 use Rattle.std.proofs.lemmas.Bool.Decides.{nat_tests}
 use Rattle.std.specs.Int.{int_max, int_min}
 use Rattle.std.proofs.lemmas.Int.{int_max_is, int_min_is, ints}
@@ -16,7 +16,6 @@ use Rattle.ics_rule.specs.Cursors.{place_of}
 use Rattle.ics_rule.specs.Kept.{is_kept, until_moment}
 use Rattle.ics_rule.specs.Next.{IsNextKept, NoneKept}
 use Rattle.ics_rule.specs.Recurrence.{Recurrence}
-use Rattle.ics_zone.specs.Observances.{is_until}
 use Rattle.ics_zone.proofs.Cases.{less_or_not_z}
 use Rattle.ics_series.specs.declared.rule_starts.RuleStarts.{RuleStarts}
 use Rattle.ics_series.specs.declared.start.StartSource.{StartSource}
@@ -24,13 +23,11 @@ use Rattle.ics_series.specs.declared.start.StartSource.TheVariants.{Kept, Listed
 use Rattle.ics_series.specs.declared.window.Window.{Window}
 use Rattle.ics_series.specs.declared.zones.FileZones.{FileZones}
 use Rattle.ics_series.specs.Clocks.{Clocks, instant}
-use Rattle.ics_series.specs.Entry.{Entry}
 use Rattle.ics_series.specs.Found.{earliest}
 use Rattle.ics_series.specs.FileZones.{clocks_in, IsOwnEvent}
 use Rattle.ics_series.specs.Inner.Quiet.{starts_by, AreBeyond, AreListedAgain, AreQuiet, IsFromOn, IsQuietTo}
-use Rattle.ics_series.specs.Occurs.{IsOf}
-use Rattle.ics_series.specs.RuleStarts.{lets_until, midnight_number, moment_numbered, settled_by}
-use Rattle.ics_series.specs.SeriesStarts.{first_asked, first_of, listed_apart, HasOwnRule, IsOwnRule}
+use Rattle.ics_series.specs.RuleStarts.{lets_until, moment_numbered, settled_by}
+use Rattle.ics_series.specs.SeriesStarts.{first_of, listed_apart, HasOwnRule, IsOwnRule}
 use Rattle.ics_series.specs.Starts.{local_of, recurrence_by, recurrence_of, time_at, time_of, GivesStart, IsRuleStart}
 use Rattle.ics_series.proofs.RawLemmas.{kept-first}
 use Rattle.ics_series.proofs.RuleDayLemmas.{number-day}

@@ -1,5 +1,5 @@
 -- From when on an event can occur again, whatever the window.
-use Rattle.std.specs.Prelude.{◌≡◌, ◌<◌, ◌≤◌, ◌≤ℤ◌, ℕ, ℤ, true, ◌&&◌, Bool, List, slice_get, Some}
+use Rattle.std.specs.Prelude.{◌≡◌, ◌<◌, ◌≤◌, ◌≤ℤ◌, ℕ, ℤ, true, ◌&&◌, Bool, slice_get, Some}
 use Rattle.std.specs.Coded.{Π_prop}
 use Rattle.std.proofs.Props.{props}
 use Rattle.ics_event.specs.declared.event.Event.{Event}

@@ -1,4 +1,4 @@
-use Rattle.std.proofs.Common.{◌≤ℤ◌, arith}
+use Rattle.std.proofs.Common.{arith}
 use Rattle.std.proofs.lemmas.Int.{int_min_is, ints}
 use Rattle.ics_series.proofs.listed.lesser_past.Goals as goal
 

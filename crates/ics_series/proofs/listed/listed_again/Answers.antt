@@ -1,4 +1,4 @@
-use Rattle.std.proofs.Common.{◌≡◌, ◌<◌, ◌≤◌, ◌≤ℤ◌, inl, inr, Some, List, length, get_or, refl, sym, ◌∙◌, ap, subst, arith, slice_get, rules, w64, SFits}
+use Rattle.std.proofs.Common.{◌≡◌, ◌≤◌, inl, inr, Some, List, length, get_or, refl, sym, ◌∙◌, ap, subst, arith, slice_get, rules, w64, SFits}
 use Rattle.std.proofs.lemmas.Bool.{cases_lt}
 use Rattle.std.proofs.lemmas.Int.{ints}
 use Rattle.std.proofs.lemmas.Option.{get_or_from_slice_get, slice_get_read, slice_get_within}

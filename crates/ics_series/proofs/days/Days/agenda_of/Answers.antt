@@ -1,5 +1,5 @@
 use Rattle.std.proofs.lemmas.Int.{int_min_is, ints}
-use Rattle.std.proofs.Common.{rules, ◌≡◌, map, inl, inr, arith, to_z, of_z, w32}
+use Rattle.std.proofs.Common.{rules, ◌≡◌, map, inl, arith, to_z, of_z, w32}
 use Rattle.ics_event.specs.Event.{said_by}
 use Rattle.ics_series.specs.Clocks.{display_clock}
 use Rattle.ics_series.specs.Versions.{seen}

@@ -1,4 +1,4 @@
-use Rattle.std.proofs.Common.{◌≡◌, [], ◌∷◌, ◌∙◌, Some, None, Option, List, slice_get, sym, ap}
+use Rattle.std.proofs.Common.{◌≡◌, Some, None, Option, List, slice_get, sym, ap}
 use Rattle.ics_series.specs.declared.start.Start.{Start}
 use Rattle.ics_series.specs.Found.{moment_cmp}
 use Rattle.ics_series.specs.Merged.{union}
