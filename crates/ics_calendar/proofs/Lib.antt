@@ -38,9 +38,6 @@ pub mod PartChecks
 pub mod PartsFirst
 pub mod PartsSaid
 pub mod PartsAre
-pub mod FirstOfAll
-pub mod AllGathered
-pub mod OnePass
 pub mod AloneParts
 pub mod UnknownInParts
 pub mod FaultlessLines

@@ -210,7 +210,7 @@ fn accepted(
 ) -> Result<Vec<SoundEvent>, AllocError>
     ensures { IfOk result (λ accepted. accepted.items ≡ of_parts (λ part. is_sound faults.now part && is_sound later.now part) events.items) }
 {
-    let mut accepted = Vec::new(alloc);
+    let mut accepted = Vec::with_capacity(alloc, events.len())?;
     for sound in events {
         if is_sound(faults, sound.part) && is_sound(later, sound.part) {
             accepted.push(sound)?;
@@ -270,7 +270,7 @@ fn gathered(
 ) -> Result<ParsedFile, AllocError>
     ensures { IfOk result (λ parsed. parsed ≡ gathered_of sound.items zones.items) }
 {
-    let mut events = Vec::new(alloc);
+    let mut events = Vec::with_capacity(alloc, sound.len())?;
     let mut checks = Vec::new(alloc);
     for one in sound {
         let SoundEvent {
@@ -356,22 +356,7 @@ impl FileParts {
         requires { length bytes.now ≤ 16_777_216 }
         ensures { IfOk result (ArePartsOf name.now bytes.now) }
     {
-        let parted = parse_parts(alloc, bytes, None)?;
-        FileParts::by(alloc, name, bytes, parted)
-    }
-
-    /// The parts of a file, if this is gathered of it.
-    pub fn by(
-        alloc: Global,
-        name: &str,
-        bytes: &[u8],
-        parted: Option<PartedFile>,
-    ) -> Result<Option<FileParts>, AllocError>
-        requires parted { parted_of None bytes.now ≡ parted }
-        requires sound { IfSome parted IsSoundParted }
-        ensures { IfOk result (ArePartsOf name.now bytes.now) }
-    {
-        match parted {
+        match parse_parts(alloc, bytes, None)? {
             Some(parted) => FileParts::with_uids(alloc, name, bytes, parted),
             None => Ok(None),
         }

@@ -14,7 +14,6 @@ mod shared_faults;
 mod shared_zones;
 mod unknown_zones;
 mod unresolved_file;
-mod whole_file;
 mod zone;
 mod zone_files;
 mod zone_table;

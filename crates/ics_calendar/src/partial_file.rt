@@ -1,6 +1,5 @@
 //! Files of which the sound parts are kept.
-ghost use Rattle.std.specs.Prelude.{◌≡◌, ◌≤◌, ◌∷◌, [], length, map, Some, None, Err, IfOk, IfSome};
-ghost use Rattle.ics_components.specs.Parted.{IsSoundParted, parted_of};
+ghost use Rattle.std.specs.Prelude.{◌≡◌, ◌≤◌, ◌∷◌, [], length, map, Err, IfOk};
 ghost use Rattle.ics_calendar.specs.Files.{file_of};
 ghost use Rattle.ics_calendar.specs.GivenFiles.{files_by};
 ghost use Rattle.ics_calendar.specs.Parts.{file_gives, names_for_parts, nothing_said};
@@ -9,11 +8,11 @@ ghost use Rattle.ics_calendar.specs.ZoneTables.{given_by};
 
 use crate::file_parts::FileParts;
 use crate::given_file::GivenFile;
+use crate::shared_zones::SharedZones;
 use crate::unknown_zones::copied;
 use crate::unresolved_file::UnresolvedFile;
-use crate::whole_file::{first_of, is_on_first, unresolved};
 use crate::zone_files::ZoneFiles;
-use ics_components::{Fault, FileFault, PartedFile, parse_parts};
+use ics_components::{Fault, FileFault};
 use ics_event::FileEvents;
 use std::alloc::{AllocError, Global};
 use std::marker::Model;
@@ -93,50 +92,21 @@ impl<'a> PartialFile<'a> {
         requires { length bytes.now ≤ 16_777_216 }
         ensures { IfOk result (λ partial. partial ≡ record { name = name.now; bytes = bytes.now }) }
     {
-        match parse_parts(alloc, bytes, None)? {
-            Some(parted) => PartialFile::of(alloc, name, bytes, parted),
-            None => PartialFile::begun(alloc, name, bytes, None),
-        }
+        let mut shared = SharedZones::none(alloc);
+        PartialFile::sharing(alloc, &mut shared, name, bytes)
     }
 
-    /// A file of which this is gathered.
-    fn of(
+    /// The same. Time zones that are shared are not made again. Most files have no fault: only one that has is read event by event.
+    pub fn sharing(
         alloc: Global,
+        shared: &mut SharedZones,
         name: &'a str,
         bytes: &'a [u8],
-        parted: PartedFile,
     ) -> Result<PartialFile<'a>, AllocError>
-        requires size { length bytes.now ≤ 16_777_216 }
-        requires parted { parted_of None bytes.now ≡ Some parted }
-        requires sound { IsSoundParted parted }
+        requires { length bytes.now ≤ 16_777_216 }
         ensures { IfOk result (λ partial. partial ≡ record { name = name.now; bytes = bytes.now }) }
     {
-        if is_on_first(parted.outside) {
-            return PartialFile::begun(alloc, name, bytes, Some(parted));
-        }
-        match first_of(&parted) {
-            None => Ok(PartialFile {
-                name,
-                bytes,
-                state: State::Whole(unresolved(alloc, parted)?),
-            }),
-            Some(fault) => PartialFile::in_parts(alloc, name, bytes, fault, Some(parted)),
-        }
-    }
-
-    /// A file that has no parts, or that may be faulty where it begins: the first round alone finds its first fault.
-    fn begun(
-        alloc: Global,
-        name: &'a str,
-        bytes: &'a [u8],
-        parted: Option<PartedFile>,
-    ) -> Result<PartialFile<'a>, AllocError>
-        requires size { length bytes.now ≤ 16_777_216 }
-        requires parted { parted_of None bytes.now ≡ parted }
-        requires sound { IfSome parted IsSoundParted }
-        ensures { IfOk result (λ partial. partial ≡ record { name = name.now; bytes = bytes.now }) }
-    {
-        match UnresolvedFile::read(alloc, bytes) {
+        match UnresolvedFile::sharing(alloc, shared, bytes) {
             Ok(unresolved) => Ok(PartialFile {
                 name,
                 bytes,
@@ -144,7 +114,7 @@ impl<'a> PartialFile<'a> {
             }),
             Err(FileFault::Memory) => Err(AllocError),
             Err(FileFault::At { line, kind }) => {
-                PartialFile::in_parts(alloc, name, bytes, Fault { line, kind }, parted)
+                PartialFile::in_parts(alloc, name, bytes, Fault { line, kind })
             }
         }
     }
@@ -155,26 +125,16 @@ impl<'a> PartialFile<'a> {
         name: &'a str,
         bytes: &'a [u8],
         fault: Fault,
-        parted: Option<PartedFile>,
     ) -> Result<PartialFile<'a>, AllocError>
         requires size { length bytes.now ≤ 16_777_216 }
         requires first { IsFirstOf bytes.now fault }
-        requires parted { parted_of None bytes.now ≡ parted }
-        requires sound { IfSome parted IsSoundParted }
         ensures { IfOk result (λ partial. partial ≡ record { name = name.now; bytes = bytes.now }) }
     {
-        match FileParts::by(alloc, name, bytes, parted)? {
-            Some(parts) => Ok(PartialFile {
-                name,
-                bytes,
-                state: State::Parted(fault, parts),
-            }),
-            None => Ok(PartialFile {
-                name,
-                bytes,
-                state: State::Refused(fault),
-            }),
-        }
+        let state = match FileParts::read(alloc, name, bytes)? {
+            Some(parts) => State::Parted(fault, parts),
+            None => State::Refused(fault),
+        };
+        Ok(PartialFile { name, bytes, state })
     }
 
     /// The names of the time zones that it wants.

@@ -97,7 +97,8 @@ impl<'a> HalfRead<'a> {
         ensures err { IfErr result (λ fault. fault ≡ RunFault.Memory) }
     {
         if keep_going {
-            return Ok(HalfRead::InParts(PartialFile::read(alloc, name, bytes)?));
+            let partial = PartialFile::sharing(alloc, shared, name, bytes)?;
+            return Ok(HalfRead::InParts(partial));
         }
         match UnresolvedFile::sharing(alloc, shared, bytes) {
             Ok(unresolved) => Ok(HalfRead::Whole(unresolved)),

@@ -137,18 +137,6 @@ rise_from last (event ∷ events) = is_above last (own_number event.uids) && ris
 abbrev pub fault_of_rest : PartedFileSeen → Option Fault
 fault_of_rest parted = fold (λ first zone. earlier first (fault_read zone.read)) parted.outside parted.zones
 
--- THE FIRST FAULT OF A FILE is the least of that of the rest and of those of the events, and WHAT IS GATHERED of it where it has none.
-abbrev pub first_of : PartedFileSeen → Option Fault
-first_of parted = fold (λ first event. earlier first (fault_read event.read)) (fault_of_rest parted) parted.events
-
-abbrev pub whole_of : PartedFileSeen → ParsedFileSeen
-whole_of parted = gathered_of (flat_map (λ event. sound_in 0 event event.read) parted.events) (sound_zones parted.zones)
-
--- A fault outside on the first line may stand for lines that are not there.
-abbrev pub is_on_first : Option Fault → Bool
-is_on_first None = false
-is_on_first (Some fault) = fault.line == 1
-
 -- WHAT IS KEPT of a file: its sound time zones, its sound events with the numbers of their parts, the first fault of each part, and that of the rest.
 pub record AreRead (parted : PartedFileSeen) (parts : PartsSeen) : Type 0 where
   pub zones : parts.zones ≡ sound_zones parted.zones

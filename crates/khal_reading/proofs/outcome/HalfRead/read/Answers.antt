@@ -8,7 +8,7 @@ use Rattle.khal_reading.proofs.outcome.HalfRead.read.Goals as goal
 
 pub returns-then-keep_going-clause-ok : goal.returns-then-keep_going-clause-ok
 returns-then-keep_going-clause-ok c =
-    ap (λ (file : NamedFile). gives_in_parts file.name file.bytes) c.in_ok-read.ensures
+    ap (λ (file : NamedFile). gives_in_parts file.name file.bytes) c.in_ok-partial.ensures
     ∙ ap (λ (k : Bool). given_by_file k c.args.name.now c.args.bytes.now) (sym c.if-keep_going.true)
 
 pub returns-in-Ok-clause-ok : goal.returns-in-Ok-clause-ok
