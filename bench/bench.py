@@ -60,7 +60,7 @@ def main():
         taken, floors = zip(*pairs)
         seconds, memory, least = min(t[0] for t in taken), max(t[1] for t in taken), min(t[0] for t in floors)
         print('%-40s %9.4f %9.1f %7d %8d %9.4f %7.2f' % (name, seconds, memory, *taken[0][2:], least, seconds / least))
-    print('%-40s %9s %9s %7s %8s %8s' % ('beside its rule', 'seconds', 'rule', 'times', 'ms more', 'lines'))
+    print('%-40s %9s %9s %7s %8s %8s' % ('beside other words', 'seconds', 'other', 'times', 'ms more', 'lines'))
     for name, files, words, one, other, turns in PAIRS:
         listing = [program, 'list', folder_of(name, files), *words]
         pairs = [(measure(listing + one), measure(listing + other)) for _ in range(turns)]

@@ -46,6 +46,12 @@ def many(count, own):
         yield '%05d.ics' % number, zoned([number]).replace(rest, '\r\n'.join(own).encode())
 
 
+def in_one_zone(count, observances):
+    """So many events that name one time zone of so many observances."""
+    large = zone('NY', *(part('STANDARD', '%04d1025T030000' % (1600 + number), '+0200', '+0100') for number in range(observances)))
+    return zoned(range(count)).replace('\r\n'.join(NEW_YORK).encode(), '\r\n'.join(large).encode())
+
+
 def locals_in(name, times):
     """An event that begins at each of these local times of a time zone."""
     lines = ['BEGIN:VEVENT', 'UID:locals@example.org', 'DTSTART;TZID=%s:%s' % (name, times[0]), 'SUMMARY:Locals']
@@ -168,4 +174,6 @@ PAIRS = [
      ['2024-01-01', '2024-12-31'], ['--zone-file', london()], ['--zone', LONDON], 10),
     ('a small listing, a zone file', lambda: [('a.ics', events(range(3)))], ['2024-01-01', '1d'], ['--zone-file', BERLIN],
      ['--zone', 'CET-1CEST,M3.5.0,M10.5.0/3'], 500),
+    ('100,000 events, --keep-going', lambda: [('a.ics', events(range(100_000)))], ['2024-01-05', '1d'], ['--keep-going'], [], 10),
+    ('the same in one large zone, --keep-going', lambda: [('a.ics', in_one_zone(100_000, 400))], ['2024-01-05', '1d'], ['--keep-going'], [], 10),
 ]
