@@ -1,5 +1,5 @@
 //! The parts of a file: which of them are sound, and the first faults of the others.
-ghost use Rattle.std.specs.Prelude.{◌≡◌, ◌≤◌, ◌<◌, ℕ, ◌∷◌, ◌++◌, ◌&&◌, ◌||◌, [], ◌==◌, if◌then◌else◌, length, fold, get_or, Some, None, IfOk, IfSome, OnOk};
+ghost use Rattle.std.specs.Prelude.{◌≡◌, ◌≤◌, ◌<◌, ℕ, ◌∷◌, ◌++◌, ◌&&◌, ◌||◌, [], ◌==◌, if◌then◌else◌, length, fold, get_or, Some, None, IfOk, OnOk};
 ghost use Rattle.std.specs.Option.{option_or};
 ghost use Rattle.std.specs.BTreeSet.{contains, insert_key};
 ghost use Rattle.std.specs.List.{All, flat_map, list_all, list_any};

@@ -14,7 +14,7 @@ use Rattle.ics_components.specs.PartFaults.{earlier}
 use Rattle.ics_calendar.specs.DeferredChecks.{is_same}
 use Rattle.ics_components.specs.Parted.{PartedComponentSeen, PartedFileSeen}
 use Rattle.ics_calendar.specs.Settled.{known_in}
-use Rattle.ics_calendar.specs.Inner.SoundParts.{PartsSeen, SoundEventSeen, gathered_of}
+use Rattle.ics_calendar.specs.Inner.SoundParts.{PartsSeen, SoundEventSeen}
 use Rattle.ics_calendar.specs.ZoneTables.{known_by}
 
 -- the first fault of a calendar
