@@ -89,6 +89,7 @@ pub extern "C" fn khal_zone_instants(
     match zone_of(alloc, zone) {
         Ok(zone) => {
             let count = convert_locals(&zone, locals, instants);
+            drop(zone);
             told(count, locals.len().min(instants.len()))
         }
         Err(fault) => KhalTimes { count: 0, fault },
@@ -109,6 +110,7 @@ pub extern "C" fn khal_zone_locals(
     match zone_of(alloc, zone) {
         Ok(zone) => {
             let count = convert_instants(&zone, instants, locals);
+            drop(zone);
             told(count, instants.len().min(locals.len()))
         }
         Err(fault) => KhalTimes { count: 0, fault },

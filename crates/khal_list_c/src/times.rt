@@ -2,7 +2,7 @@
 ghost use Rattle.std.specs.Prelude.{◌≡◌, ◌⊎◌, IfOk, IfErr, MatchOption};
 ghost use Rattle.ics_rule.specs.Kept.{until_moment};
 ghost use Rattle.khal_list_c.specs.Said.{said_of};
-ghost use Rattle.khal_list_c.specs.Times.{FillsBy, IsFault, IsRefused};
+ghost use Rattle.khal_list_c.specs.Times.{FillsBy, IsRefused};
 
 use crate::clock::clock_of;
 use crate::filling::{RULES_END, fill};
@@ -15,30 +15,6 @@ use std::alloc::Global;
 pub struct KhalTimes {
     pub count: usize,
     pub fault: u32,
-}
-
-/// How many instances of a rule were written, or the number of the first fault.
-fn times_of(
-    alloc: Global,
-    rule: &[u8],
-    start: &[u8],
-    zone: &[u8],
-    from: u64,
-    before: u64,
-    times: &mut [u64],
-) -> Result<usize, u32>
-    ensures fills { IfOk result (FillsBy rule.now start.now zone.now from before times.new) }
-    ensures fault { IfErr result (λ fault. IsFault (said_of rule.now start.now) zone.now fault × (times.new ≡ times.old)) }
-{
-    let said = rule_of(rule, start)?;
-    let clock = clock_of(alloc, said.in_utc, zone)?;
-    Ok(fill(
-        &said,
-        &clock,
-        from.min(RULES_END),
-        before.min(RULES_END),
-        times,
-    ))
 }
 
 /// Writes the instances of a rule from `from` on and before `before` to `times`, in order, as many as there is room for. The rule is the
@@ -58,8 +34,21 @@ pub extern "C" fn khal_rule_times(
     ensures { ((result.fault ≡ 0) × FillsBy rule.now start.now zone.now from before times.new result.count)
         ⊎ IsRefused rule.now start.now zone.now times.old times.new result }
 {
-    match times_of(alloc, rule, start, zone, from, before, times) {
-        Ok(count) => KhalTimes { count, fault: 0 },
+    match rule_of(rule, start) {
+        Ok(said) => match clock_of(alloc, said.in_utc, zone) {
+            Ok(clock) => {
+                let count = fill(
+                    &said,
+                    &clock,
+                    from.min(RULES_END),
+                    before.min(RULES_END),
+                    times,
+                );
+                drop(clock);
+                KhalTimes { count, fault: 0 }
+            }
+            Err(fault) => KhalTimes { count: 0, fault },
+        },
         Err(fault) => KhalTimes { count: 0, fault },
     }
 }
