@@ -16,11 +16,12 @@ IsLocal n = n < rules_end
 abbrev pub IsInstant : ℤ → Type 0
 IsInstant t = (year_seconds 1 ≤ℤ t) × (t ≤ℤ year_seconds 9_801)
 
--- The first `count` answers are those to the first `count` that are asked. Of the shorter list all are answered, or the next one is not of the kind
--- that is converted.
+-- The first `count` answers are those to the first `count` that are asked, and these are of the kind that is converted. Of the shorter list all are
+-- answered, or the next one is not of that kind.
 pub record Converts {A B : Type 0} (f : A → B) (Is : A → Type 0) (asked : List A) (answers : List B) (count : ℕ) : Type 0 where
   pub room : count ≤ min (length asked) (length answers)
   pub each : take count answers ≡ map f (take count asked)
+  pub kind : (n : ℕ) → n < count → (a : A) → slice_get asked n ≡ Some a → Is a
   pub all : count < min (length asked) (length answers) → (a : A) × (slice_get asked count ≡ Some a) × (¬ Is a)
 
 -- the bytes are of a zone that converts them so, and the fault is 4 if one is out of bounds
