@@ -40,3 +40,4 @@ mod SizeLemmas
 mod EvenLemmas
 mod CycleLemmas
 mod CalendarRounds
+mod GivenLemmas

@@ -8,3 +8,4 @@ pub mod OpenPeriods
 pub mod NearDays
 pub mod Quiet
 pub mod Runs
+pub mod Given

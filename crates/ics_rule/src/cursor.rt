@@ -101,7 +101,7 @@ impl Cursor {
             start,
             first: period_of(&rule.whole, start),
         };
-        match rule.parts.count {
+        match rule.given.count {
             None => self.walk_freely(&search, stop),
             Some(count) => self.walk_counting(&search, count, stop),
         }
@@ -132,8 +132,7 @@ impl Cursor {
             self.place = place.max(end);
             return None;
         }
-        let parts = &rule.parts;
-        let stop = end.min(until_end(rule.kind, parts.until));
+        let stop = end.min(until_end(rule.kind, rule.given.until));
         if stop <= place {
             self.place = place.max(end);
             return None;
@@ -199,8 +198,7 @@ impl Cursor {
         if self.place <= start {
             return start;
         }
-        let parts = &rule.parts;
-        let stop = RULES_END.min(until_end(rule.kind, parts.until));
+        let stop = RULES_END.min(until_end(rule.kind, rule.given.until));
         if stop <= self.place {
             return RULES_END;
         }
@@ -209,7 +207,7 @@ impl Cursor {
             start,
             first: period_of(&rule.whole, start),
         };
-        if self.is_counted_out(search.parts, parts.count) {
+        if self.is_counted_out(search.parts, rule.given.count) {
             return RULES_END;
         }
         if chooses_none(search.parts) {

@@ -1,5 +1,6 @@
 //! Taking what a rule leaves out from the start of its event (RFC 5545, 3.3.10).
-ghost use Rattle.std.specs.Prelude.{◌≡◌, ◌<◌, ◌≤◌, ◌/◌, if◌then◌else◌};
+ghost use Rattle.std.specs.Prelude.{◌≡◌, true, ◌<◌, ◌≤◌, ◌/◌, if◌then◌else◌};
+ghost use Rattle.ics_fields.specs.Ordinals.{all_list_none, lists_no_weekday, no_weekdays};
 ghost use Rattle.ics_fields.specs.Sets.{only};
 ghost use Rattle.ics_rule.specs.EffectiveRules.{names_no_day, takes_month_day, takes_month, takes_weekday, skips_hours, skips_minutes, skips_seconds};
 ghost use Rattle.ics_rule.specs.EffectiveRules.{clock_part, only_place, only_weekday, effective_at};
@@ -11,15 +12,32 @@ use crate::kind::Kind;
 use crate::part::{PlacesPart, WeekdaysPart};
 use ics_fields::{BitSet, Frequency, Ordinals, Parts, Weekdays};
 
+/// Whether no weekday has a number. Their list is then that of BYDAY without a weekday.
+fn has_no_numbers(numbered: &[Ordinals; 7]) -> bool
+    ensures value { result ≡ all_list_none numbered.now }
+    ensures empty { result ≡ true → numbered.now ≡ no_weekdays.numbered }
+{
+    numbered.iter().all(Ordinals::is_empty)
+}
+
+/// Whether BYDAY is absent. It is then the empty list.
+fn has_no_weekday(weekdays: &Weekdays) -> bool
+    ensures value { result ≡ lists_no_weekday weekdays.now }
+    ensures empty { result ≡ true → weekdays.now ≡ no_weekdays }
+{
+    weekdays.plain.is_empty() && has_no_numbers(&weekdays.numbered)
+}
+
 /// Whether BYYEARDAY, BYMONTHDAY and BYDAY are absent.
 fn names_no_day(parts: &Parts) -> bool
-    ensures { result ≡ names_no_day parts.now }
+    ensures value { result ≡ names_no_day parts.now }
+    ensures empty { result ≡ true → parts.now.weekdays ≡ no_weekdays }
 {
-    parts.month_days.is_empty() & parts.year_days.is_empty() & parts.weekdays.is_empty()
+    parts.month_days.is_empty() & parts.year_days.is_empty() & has_no_weekday(&parts.weekdays)
 }
 
 /// Whether the rule takes the day of the month from the start.
-fn takes_month_day(parts: &Parts) -> bool
+pub(crate) fn takes_month_day(parts: &Parts) -> bool
     ensures { result ≡ takes_month_day parts.now.frequency parts.now }
 {
     match parts.frequency {
@@ -29,7 +47,7 @@ fn takes_month_day(parts: &Parts) -> bool
 }
 
 /// Whether the rule takes the month from the start.
-fn takes_month(parts: &Parts) -> bool
+pub(crate) fn takes_month(parts: &Parts) -> bool
     ensures { result ≡ takes_month parts.now.frequency parts.now }
 {
     match parts.frequency {
@@ -38,13 +56,14 @@ fn takes_month(parts: &Parts) -> bool
     }
 }
 
-/// Whether the rule takes the weekday from the start.
-fn takes_weekday(parts: &Parts) -> bool
-    ensures { result ≡ takes_weekday parts.now.frequency parts.now }
+/// Whether the rule takes the weekday from the start. BYDAY is then the empty list.
+pub(crate) fn takes_weekday(parts: &Parts) -> bool
+    ensures value { result ≡ takes_weekday parts.now.frequency parts.now }
+    ensures empty { result ≡ true → parts.now.weekdays ≡ no_weekdays }
 {
     match parts.frequency {
         Frequency::Yearly => names_no_day(parts) & !parts.weeks.is_empty(),
-        Frequency::Weekly => parts.weekdays.is_empty(),
+        Frequency::Weekly => has_no_weekday(&parts.weekdays),
         _ => false,
     }
 }

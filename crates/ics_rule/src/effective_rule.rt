@@ -8,8 +8,8 @@ use jiff_core::civil::Weekday;
 #[derive(Clone, Copy)]
 pub struct EffectiveRule {
     pub(crate) frequency: Frequency,
-    pub(crate) interval: u32,
     pub(crate) week_start: Weekday,
+    pub(crate) interval: u32,
     pub(crate) months: BitSet,
     pub(crate) month_days: Ordinals,
     pub(crate) year_days: PlacesPart,

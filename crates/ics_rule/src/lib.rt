@@ -7,6 +7,7 @@ mod date;
 mod days;
 mod effective;
 mod effective_rule;
+mod given;
 mod hour;
 mod kind;
 mod laws;

@@ -5,6 +5,7 @@ ghost use Rattle.ics_fields.specs.Days.{IsDayNumber};
 use crate::date::lets_date;
 use crate::effective::fill;
 use crate::effective_rule::EffectiveRule;
+use crate::given::Given;
 use crate::kind::Kind;
 use crate::step::in_step;
 use crate::time::lets_clock;
@@ -14,10 +15,10 @@ use std::marker::Model;
 /// A recurrence rule, with the start and the kind of its event (RFC 5545, 3.3.10). What the rule leaves out is taken from the start.
 #[derive(Clone, Copy)]
 pub struct Rule {
-    pub(crate) parts: Parts,
+    pub(crate) whole: EffectiveRule,
+    pub(crate) given: Given,
     pub(crate) start: Local,
     pub(crate) kind: Kind,
-    pub(crate) whole: EffectiveRule,
 }
 
 impl Model for Rule {
@@ -25,18 +26,22 @@ impl Model for Rule {
 
     ghost Value = { Recurrence };
 
-    ghost use Rattle.std.specs.Prelude.{◌≡◌, ◌≤◌};
+    ghost use Rattle.std.specs.Prelude.{◌≡◌, ◌≤◌, MatchOption};
+    ghost use Rattle.std.proofs.Common.{sym};
     ghost use Rattle.ics_fields.specs.Days.{IsDayNumber};
+    ghost use Rattle.ics_fields.specs.RuleParts.{IsUntil};
     ghost use Rattle.ics_rule.specs.EffectiveRules.{effective};
+    ghost use Rattle.ics_rule.specs.Inner.Given.{given_of, parts_of};
 
-    ghost view = { λ r. record { parts = r.parts; start = r.start; kind = r.kind } };
+    ghost view = { λ r. record { parts = parts_of r.whole r.given; start = r.start; kind = r.kind } };
 
-    ghost invariant = { λ r. (r.whole ≡ effective (record { parts = r.parts; start = r.start; kind = r.kind }))
-        × (IsDayNumber r.start.day × (1 ≤ r.whole.interval)) };
+    ghost invariant = { λ r. (r.whole ≡ effective (record { parts = parts_of r.whole r.given; start = r.start; kind = r.kind }))
+        × (IsDayNumber r.start.day × (1 ≤ r.whole.interval) × MatchOption r.given.count (Unit {0}) (λ n. 1 ≤ n)
+        × MatchOption r.given.until (Unit {0}) IsUntil × (r.given ≡ given_of (parts_of r.whole r.given))) };
 
-    ghost inverse = { λ v. record { parts = v.parts; start = v.start; kind = v.kind; whole = effective v } };
+    ghost inverse = { λ v. record { whole = effective v; given = given_of v.parts; start = v.start; kind = v.kind } };
 
-    ghost inverse_ok = { λ r h. Prim.rw h.0 };
+    ghost inverse_ok = { λ r h i. record { whole = sym h.0 i; given = sym h.1.4 i; start = r.start; kind = r.kind } };
 }
 
 impl Rule {
@@ -51,11 +56,12 @@ impl Rule {
         ensures { result ≡ record { parts = parts; start = start; kind = kind } }
     {
         let whole = fill(&parts, kind, start.number());
+        let given = Given::of(&parts);
         Rule {
-            parts,
+            whole,
+            given,
             start,
             kind,
-            whole,
         }
     }
 
@@ -81,7 +87,7 @@ impl Rule {
     {
         match self.kind {
             Kind::Date => None,
-            Kind::DateTime => match self.parts.until {
+            Kind::DateTime => match self.given.until {
                 Some(Until::Utc(local)) => Some(local.seconds()),
                 _ => None,
             },

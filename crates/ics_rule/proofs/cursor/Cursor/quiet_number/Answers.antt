@@ -28,7 +28,7 @@ returns-then-stop-self-clause-none c =
 pub returns-then-is_counted_out-clause-none : goal.returns-then-is_counted_out-clause-none
 returns-then-is_counted_out-clause-none c =
     let at = (goal.at.returns-then-is_counted_out-clause-none c).After-min-stop in
-    let own : IsCursorIn c.rule.inside.whole c.args.start c.parts.inside.count c.args.self.now = grind arith in
+    let own : IsCursorIn c.rule.inside.whole c.args.start c.rule.inside.given.count c.args.self.now = grind arith in
     let none = c.is_counted_out.ensures c.if-is_counted_out.true c.args.start own in
     none_kept c.args.rule.now c.args.self.now.place rules_end c.until_end.result (after at) (omega arith) (ends at)
     (λ n l u. let is = none n l (omega (arith, u)) in grind arith)
