@@ -151,6 +151,7 @@ ROWS = [
      ['2024-01-05', '1d', '--keep-going']),
     ('1,000 weekly rules since 2000', lambda: weekly(1_000), ['2024-01-05', '7d']),
     ('weekly rules, a window in 2500', lambda: weekly(1_000), ['2500-01-05', '7d']),
+    ('5,000 weekly rules since 2000', lambda: weekly(5_000), ['2024-01-05', '7d']),
     ('1,000 zoned weekly rules since 2000', lambda: zoned_weekly(1_000), ['2024-01-05', '7d']),
     ('zoned weekly rules, a window in 2500', lambda: zoned_weekly(1_000), ['2500-01-05', '7d']),
     ('100 zones, a window in 2500', lambda: many_weekly(100), ['2500-01-05', '7d']),
