@@ -19,3 +19,4 @@ pub mod WalkLemmas
 pub mod TableLemmas
 pub mod CandidateLemmas
 pub mod ReadLemmas
+pub mod BoundsLemmas

@@ -1,4 +1,5 @@
 pub mod Seconds
+pub mod Bounds
 pub mod DisplayTexts
 pub mod DisplayFaults
 pub mod JiffZones

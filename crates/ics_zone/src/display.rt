@@ -8,7 +8,7 @@ ghost use Rattle.ics_fields.specs.Locals.{seconds_at};
 
 use crate::display_text::read_offset;
 use crate::jiff_zone::JiffZone;
-use crate::{DisplayFault, Place, ZoneFile};
+use crate::{Bounds, DisplayFault, Place, ZoneFile};
 use ics_fields::{Local, Moment};
 use jiff_core::Offset;
 use jiff_tz::posix;
@@ -104,6 +104,10 @@ impl Place for Display {
         ensures value { result ≡ said_moment (display_said self.now) (seconds_at local.day local.second) }
     {
         self.zone.moment(local)
+    }
+
+    fn bounds(&self) -> Bounds {
+        self.zone.bounds()
     }
 
     ghost near = { λ display moment. offset_near display moment };

@@ -1,13 +1,14 @@
 //! Zones of jiff's: one offset, the rule of a POSIX TZ string, or the table of a zone file.
 ghost use Rattle.std.specs.Prelude.{◌≡◌, IfOk};
 ghost use Rattle.jiff.specs.Words.{plain_zone, nanos_of_seconds, civil_nanos};
+ghost use Rattle.ics_zone.specs.Bounds.{HasBounds};
 ghost use Rattle.ics_zone.specs.JiffZones.{plain_said, IsMomentIn, IsOffsetIn};
 ghost use Rattle.ics_zone.specs.Seconds.{IsDay, IsMoment};
 ghost use Rattle.ics_zone.specs.ZoneSaid.{ZoneSaid, jiff_said, said_offset, said_moment};
 ghost use Rattle.ics_fields.specs.Locals.{seconds_at};
 
-use crate::ZoneFile;
 use crate::shared_table::SharedTable;
+use crate::{Bounds, ZoneFile};
 use ics_fields::{Local, Moment};
 use jiff::Timestamp;
 use jiff::civil::DateTime;
@@ -76,6 +77,26 @@ impl JiffZone {
         let zone = self.zone();
         let instant = zone.to_timestamp(datetime(local)).unwrap();
         instant.as_second()
+    }
+
+    /// Two offsets between which all others lie. A table has any that jiff allows.
+    pub fn bounds(&self) -> Bounds
+        ensures { HasBounds (said_offset (jiff_said self.now)) (said_moment (jiff_said self.now)) result.least result.most }
+    {
+        match self {
+            JiffZone::Fixed(offset) => {
+                let seconds = i64::from(offset.seconds);
+                Bounds::about(seconds, seconds)
+            }
+            JiffZone::Posix(rule) => {
+                let standard = i64::from(rule.std_offset.seconds);
+                match rule.dst {
+                    None => Bounds::about(standard, standard),
+                    Some(dst) => Bounds::about(standard, i64::from(dst.offset.seconds)),
+                }
+            }
+            JiffZone::Table(_) => Bounds::about(-93_599, 93_599),
+        }
     }
 }
 

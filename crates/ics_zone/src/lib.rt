@@ -1,6 +1,7 @@
 //! Zones: an offset at each instant, and an instant for each local.
 #![tactic(auto)]
 
+mod bounds;
 mod clear;
 mod clock;
 mod display;
@@ -28,6 +29,7 @@ mod zone_file_fault;
 mod zone_laws;
 mod zone_observances;
 
+pub use bounds::Bounds;
 pub use display::Display;
 pub use display_fault::DisplayFault;
 pub use ics_values::Observance;

@@ -11,6 +11,7 @@ ghost use Rattle.ics_zone.specs.Inner.OnsetSets.{IsSearched};
 ghost use Rattle.ics_zone.specs.Inner.ZoneOnsets.{AreOnsetsOfAll, HaveOffsets, IsLatestOf};
 ghost use Rattle.ics_zone.specs.Inner.Tables.{IsTable};
 
+use crate::Bounds;
 use crate::clock::EPOCH;
 use crate::latest::{
     Latest, Steady, clear_after, first_offset, latest_of, latest_within, look_on, next_onset,
@@ -27,6 +28,9 @@ use std::alloc::{AllocError, Global};
 use std::marker::Model;
 
 const DAY: i64 = 86_400;
+
+/// No offset of an observance is greater.
+const SHORT: i64 = 86_399;
 
 /// The instants about which spans are held: those of the years 0000 to 9950, with two days more on either side.
 const FIRST_HELD: Moment = -EPOCH - 2 * DAY;
@@ -95,6 +99,7 @@ impl Model for Observed {
 }
 
 impl Observed {
+    ghost use Rattle.ics_zone.specs.Bounds.{HasBounds};
     ghost use Rattle.ics_zone.specs.ZoneOffsets.{IsOffset, zone_offset};
     ghost use Rattle.ics_zone.specs.Moments.{shown, IsFirstTime, IsInGap, IsMomentOf, zone_moment};
     ghost use Rattle.ics_zone.specs.Inner.ZoneOnsets.{IsJump, IsSteady};
@@ -189,6 +194,22 @@ impl Observed {
         match self.first_time(seconds) {
             Some(moment) => moment,
             None => self.across_gap(seconds),
+        }
+    }
+
+    /// The least and the greatest of its offsets.
+    pub fn bounds(&self) -> Bounds
+        ensures { HasBounds (zone_offset self.now.said.items) (zone_moment self.now.said.items) result.least result.most }
+    {
+        let mut least = SHORT;
+        let mut most = -SHORT;
+        for offset in &self.offsets {
+            least = least.min(i64::from(*offset));
+            most = most.max(i64::from(*offset));
+        }
+        Bounds {
+            least: least.max(-SHORT),
+            most: most.min(SHORT),
         }
     }
 

@@ -4,6 +4,7 @@ ghost use Rattle.jiff_core.specs.Calendar.{IsBetween};
 ghost use Rattle.ics_zone.specs.Seconds.{IsMoment, IsDay};
 ghost use Rattle.ics_fields.specs.Locals.{seconds_at};
 
+use crate::Bounds;
 use ics_fields::{Local, Moment};
 
 const DAY: i64 = 86_400;
@@ -13,6 +14,7 @@ const DAY: i64 = 86_400;
 /// 1970-01-01T00:00:00, each day having 86,400. Callers stay in the years 0000 to 9950.
 pub trait Place {
     ghost use Rattle.std.specs.Prelude.{◌≡◌, ◌-ℤ◌, ℤ};
+    ghost use Rattle.ics_zone.specs.Bounds.{HasBounds};
     ghost use Rattle.ics_zone.specs.Seconds.{IsNear};
 
     /// The offset at an instant, in seconds.
@@ -45,6 +47,10 @@ pub trait Place {
     {
         local_of(moment + i64::from(self.offset(moment)))
     }
+
+    /// Two offsets between which all offsets of the place lie.
+    fn bounds(&self) -> Bounds
+        ensures { HasBounds (offset_at self.now) (moment_at self.now) result.least result.most };
 
     /// An offset is less than two days.
     ghost near: { (place : Self) (moment : ℤ) → IsNear (offset_at place moment) };
