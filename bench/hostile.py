@@ -71,15 +71,15 @@ def yearly(count, locals_of_year):
     return in_zone(parts, *of_year(locals_of_year))
 
 
-def seconds(count, end, *more):
-    """Lines of so many events that recur each second. Their times end so."""
+def seconds(count, end, *more, since='20240701'):
+    """Lines of so many events that recur each second since a day. Their times end so."""
     return [line for number in range(count)
-            for line in ('BEGIN:VEVENT', 'UID:%d' % number, 'DTSTART:20240701T000000' + end, 'RRULE:FREQ=SECONDLY', *more, 'END:VEVENT')]
+            for line in ('BEGIN:VEVENT', 'UID:%d' % number, 'DTSTART:%sT000000%s' % (since, end), 'RRULE:FREQ=SECONDLY', *more, 'END:VEVENT')]
 
 
-def excluded(count, end, *before):
-    """So many events that recur each second, of which a day is taken out, behind other lines. Their times end so."""
-    return calendar([*before, *seconds(count, end, 'EXDATE;VALUE=DATE:20240701')])
+def excluded(count, end, *before, since='20240701'):
+    """So many events that recur each second since a day, of which one day is taken out, behind other lines. Their times end so."""
+    return calendar([*before, *seconds(count, end, 'EXDATE;VALUE=DATE:20240701', since=since)])
 
 
 def hourly(count):
@@ -147,7 +147,9 @@ ROWS = [
     ('seconds of 2 rules, limit 1', lambda: calendar(seconds(2, 'Z')), [*DAY, '--limit', '1'], 1, 32),
     ('seconds of an excluded day, 4 rules', lambda: excluded(4, 'Z'), DAY, 4, 24),
     ('seconds of 8 rules, limit 1', lambda: excluded(8, 'Z'), ['2024-07-01', '10d', '--limit', '1'], 4, 32),
-    ('the same by the clock of New York', lambda: excluded(8, ''), ['2024-07-01', '10d', '--limit', '1', *NEW_YORK], 12, 48),
+    ('the same by the clock of New York', lambda: excluded(8, ''), ['2024-07-01', '10d', '--limit', '1', *NEW_YORK], 1, 32),
+    ('an excluded day by the clock of New York', lambda: excluded(64, ''), [*DAY, *NEW_YORK], 4, 24),
+    ('the same of rules since 2020', lambda: excluded(64, '', since='20200101'), [*DAY, *NEW_YORK], 4, 24),
     ('64 rules behind what is listed, limit 1', lambda: excluded(64, '', *once('20240628')),
      ['2024-06-28', '10d', '--limit', '1', *NEW_YORK], 1, 32),
     ('400,000 faulty events, --keep-going', lambda: faulty(400_000), [*DAY, '--keep-going'], 12, 256),

@@ -33,6 +33,11 @@ module _ {A : Type 0} (R : A → A → Ordering) (o : IsTotalOrder R) where
   cut-before x [] h = refl
   cut-before x (y ∷ ys) h = ap (λ c. by_order c (y ∷ ys) ys (y ∷ ys)) h.0
 
+  -- what stays was there
+  pub in-cut : (s e : A) (xs : List A) → IsIn e (cut R s xs) → IsIn e xs
+  in-cut s e [] m = m
+  in-cut s e (x ∷ xs) m = by-cases (R s x) (λ p. rw p at m) (λ p. inr (rw p at m)) (λ p. rw p at m)
+
   -- what is not tied with what goes stays
   pub member-cut : (s e : A) (xs : List A) → (R s e ≡ Equal → ⊥) → IsIn e xs → IsIn e (cut R s xs)
   member-cut s e [] n m = absurd m

@@ -1,6 +1,6 @@
 -- What the merge of the leads' lists begins with, from the lead that goes first.
 use Rattle.std.proofs.Common.{◌≡◌, ℕ, zero, suc, ◌+◌, ◌<◌, true, false, ⊎_elim, List, [], ◌∷◌, ◌++◌, length, get_or, set, take, drop, map, sum_by, Option}
-use Rattle.std.proofs.Common.{ℤ, ◌≤ℤ◌, int_cmp, Some, None, refl, sym, ◌∙◌, ap, subst, arith, option_map, is_gt, nat_cmp, Ordering, Less, Equal, Greater, inr}
+use Rattle.std.proofs.Common.{ℤ, ◌≤ℤ◌, int_cmp, Some, None, refl, sym, ◌∙◌, ap, subst, arith, option_map, is_gt, nat_cmp, Ordering, Less, Equal, Greater}
 use Rattle.std.specs.Ordering.{ordering_then}
 use Rattle.std.proofs.lemmas.Bool.{cases_lt}
 use Rattle.std.proofs.lemmas.Bool.Decides.{nat_tests}
@@ -14,7 +14,7 @@ use Rattle.ics_series.specs.Inner.EntryLaws.{entry_total}
 use Rattle.ics_series.specs.Leads.{listed, past, to_draw, ComeAfter, AreFrom, IsAhead, IsEmpty, AreNear, HasNear}
 use Rattle.ics_series.specs.Merged.{cut, merged, union}
 use Rattle.ics_series.specs.Inner.MergedLaws.{before-tied, before-trans}
-use Rattle.ics_series.proofs.Cases.{eq-Equal, some-same, up-to-front, by-cases}
+use Rattle.ics_series.proofs.Cases.{eq-Equal, some-same, up-to-front}
 use Rattle.ics_series.proofs.BeginsLemmas.{all_front, begins-at, cut-before, front-at, front-cases, not-after-front, uncut, AllFront, AllRise, before-union}
 use Rattle.ics_series.specs.Rising.{IsBefore, Rises}
 use Rattle.ics_series.specs.Inner.Tournament.{above, head_cmp, held_by, lead_cmp, must_draw, turn_cmp, turn_of, winner, AreSettled, AreSettledBut, Turn}
@@ -24,7 +24,7 @@ use Rattle.std.specs.List.{flat_map, AllByRecursion}
 use Rattle.std.proofs.lemmas.List.Elements.{All-from_recursion, All-push, All-set, recursion_from_All}
 use Rattle.ics_series.specs.Listing.{IsIn}
 use Rattle.ics_series.proofs.ListingLemmas.{before-in, all-as}
-use Rattle.ics_series.proofs.BeginsLemmas.{before-all, member-cut}
+use Rattle.ics_series.proofs.BeginsLemmas.{before-all, in-cut, member-cut}
 
 -- what stands at the front of a list
 abbrev front : List Entry → Option Entry
@@ -367,13 +367,9 @@ flat-set f [] i new read e = refl
 flat-set f (x ∷ xs) zero new read e = ap (λ ys. ys ++ flat_map f xs) (e ∙ ap f read)
 flat-set f (x ∷ xs) (suc i) new read e = ap (λ ys. f x ++ ys) (flat-set f xs i new read e)
 
-cut-in : (p o : Entry) (list : List Entry) → IsIn o (cut entry_cmp p list) → IsIn o list
-cut-in p o [] m = m
-cut-in p o (x ∷ xs) m = by-cases (entry_cmp p x) (λ e. rw e at m) (λ e. inr (rw e at m)) (λ e. rw e at m)
-
 past-in : (last : Option Occurrence) (o : Entry) (list : List Entry) → IsIn o (past last list) → IsIn o list
 past-in None o list m = m
-past-in (Some p) o list m = cut-in (entry_of p) o list m
+past-in (Some p) o list m = in-cut entry_cmp entry_total (entry_of p) o list m
 
 before-merged : (p : Entry) (lists : List (List Entry)) → AllByRecursion (IsBefore entry_cmp p) lists → IsBefore entry_cmp p (merged entry_cmp lists)
 before-merged p [] h = tt

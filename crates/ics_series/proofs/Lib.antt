@@ -37,3 +37,5 @@ pub mod MoveLemmas
 pub mod WholeLemmas
 pub mod WindowLemmas
 pub mod ZoneLemmas
+pub mod RemovedLemmas
+pub mod SameLemmas

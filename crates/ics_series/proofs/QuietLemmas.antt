@@ -31,8 +31,8 @@ use Rattle.ics_series.specs.SeriesStarts.{first_of, listed_apart, HasOwnRule, Is
 use Rattle.ics_series.specs.Starts.{local_of, recurrence_by, recurrence_of, time_at, time_of, GivesStart, IsRuleStart}
 use Rattle.ics_series.proofs.RawLemmas.{kept-first}
 use Rattle.ics_series.proofs.RuleDayLemmas.{number-day}
-use Rattle.ics_series.proofs.SettledLemmas.{late-settled, off-local}
-use Rattle.ics_series.proofs.SoughtLemmas.{back-least, earliest-soon}
+use Rattle.ics_series.proofs.SettledLemmas.{late-settled}
+use Rattle.ics_series.proofs.SoughtLemmas.{earliest-soon, late-event}
 use Rattle.ics_series.proofs.StartSourceLemmas.{calendar-day, kept-late, number-seconds, numbered-number, own-day, own-time, rule-first, ruled-kept}
 use Rattle.ics_series.proofs.StartSourceLemmas.{same-number}
 
@@ -95,9 +95,16 @@ module _ (s : RuleStarts) where
             subst (IsFromOn clocks s.event.now s.rule s.window t) same mine
       ]
 
+  -- locals before the window's end may be passed over
+  pub beyond-passed : {now : ℕ} → ((n : ℕ) → place_of s.cursor ≤ n → n < now → moment_numbered clocks s.event.now n <ℤ s.window.to)
+      → AreBeyond clocks s.event.now s.rule s.window (number s.from) now s.beyond
+  beyond-passed {now = now} early =
+      beyond-to clocks s.event.now s.rule s.window (number s.from) {place = place_of s.cursor} {now = now} {t = s.beyond} {u = s.beyond} (omega (arith, ints))
+      s.past_end (λ n l u by end. let before = early n l u in absurd (omega (arith, ints, before, end)))
+
   -- What is kept from the cursor's place on is not before this local, and so no start before its instant.
   pub quiet-by : (local : Local) {t : ℤ} → NoneKept s.rule (place_of s.cursor) (number local) → IsDayNumber local.day → t ≤ℤ s.beyond
-      → t ≤ℤ settled_by s.event.now.start.stamp local.day (local_seconds local) → AreQuiet clocks s.event.now s.rule s.window (number s.from) t
+      → t ≤ℤ settled_by s.event.now.start.stamp s.bounds.most local.day (local_seconds local) → AreQuiet clocks s.event.now s.rule s.window (number s.from) t
   quiet-by local {t = t} none day less settled n l late = elim (cases_lt n (place_of s.cursor)) [
     | inl early ↦ λ by end. let b = s.past_end n l early by end in omega (arith, ints, b, less)
     | inr past ↦ λ by end. elim (cases_lt n (number local)) [
@@ -105,7 +112,7 @@ module _ (s : RuleStarts) where
           let no : true ≡ false =
           sym (kept-by clocks s.event.now s.rule s.window (number s.from) n by) ∙ none n past before in cc)
       | inr on ↦
-          let at = late-settled s.zones s.event.now local.day (local_seconds local) n day
+          let at = late-settled s.zones s.event.now s.bounds s.bounded local.day (local_seconds local) n day
           (omega (arith, ints, on, number-seconds local day, number-day local.day day))
           (omega (arith, ints, on, number-seconds local day)) in
           omega (arith, ints, at, settled)
@@ -140,11 +147,14 @@ module _ (zones : FileZones) (event : Event) (own : IsOwnEvent zones event) (w :
       → (at-local local <ℤ w.to) ⊎ (at-local local <ℤ since)
   too-early s rule local by day early =
       let first = kept-first (clocks_in zones) event own.is_event.start local by in
-      let off = off-local zones event local in
+      let late = late-event zones w event in
       let soon = earliest-soon zones w event (listed_apart (clocks_in zones) w event event.rule) in
-      let back = back-least zones w event in
-      let before : at-local local <ℤ first_of (clocks_in zones) w event since =
-      omega (arith, ints, int_max_is, rule.low, number-seconds s.from rule.day, number-seconds local day, early, first, off.1, back) in
+      let begun = local_of event.start.stamp in
+      let on : number (local_of event.start.stamp) ≤ number local =
+      omega (arith, ints, first, number-seconds begun (calendar-day begun.day (own-day event.start own.is_event.start)), number-seconds local day) in
+      let same : moment_numbered (clocks_in zones) event (number local) ≡ at-local local = ap at-local (numbered-number local day) in
+      let low = rule.low (number local) on early in
+      let before : at-local local <ℤ first_of (clocks_in zones) w event since = omega (arith, ints, low, same, late) in
       elim (int_max_cases (at-local local) (earliest (clocks_in zones) w event (listed_apart (clocks_in zones) w event event.rule))
       (int_min since (w.to +ℤ whole_days 14)) before) [ inl a ↦ inl (omega (arith, ints, a, soon)) | inr b ↦ inr (omega (arith, ints, b, int_min_is)) ]
     where

@@ -47,7 +47,7 @@ module _ (clocks : Clocks) (event : Event) (rule : Recurrence) (w : Window) wher
   abbrev pub NoneGives : ℕ → ℕ → Type 0
   NoneGives from to = (n : ℕ) → from ≤ n → n < to → gives clocks event rule w n ≡ false
 
-  found-first : (from : ℕ) → from < rules_end → found clocks event rule w from
+  pub found-first : (from : ℕ) → from < rules_end → found clocks event rule w from
       ≡ with_put (gives clocks event rule w from) (start_at clocks event (local_numbered from)) (found clocks event rule w (from + 1))
   unfolding found
   found-first from l =

@@ -7,9 +7,10 @@ use Rattle.std.proofs.lemmas.Int.{int_max_is, int_min_is, ints}
 use Rattle.std.specs.Int.{int_max}
 use Rattle.ics_fields.specs.Days.{IsDayNumber}
 use Rattle.ics_fields.specs.declared.local.Local.{Local}
-use Rattle.ics_rule.specs.Cursors.{place_of}
+use Rattle.jiff_core.specs.Calendar.{IsBetween, IsWithin}
+use Rattle.ics_rule.specs.Cursors.{place_of, IsCursorOf}
 use Rattle.ics_rule.specs.Kept.{until_moment}
-use Rattle.ics_fields.specs.Locals.{local_at, local_seconds, number, midnight, whole_days, year_number, year_seconds}
+use Rattle.ics_fields.specs.Locals.{day_of_local, local_at, local_seconds, number, midnight, whole_days, year_number, year_seconds}
 use Rattle.ics_rule.specs.Next.{NoneKept, IsNextKept}
 use Rattle.ics_rule.specs.Recurrence.{Recurrence}
 use Rattle.ics_rule.proofs.KeptLemmas.{and_true}
@@ -31,10 +32,10 @@ use Rattle.ics_series.specs.Starts.{local_of, time_at}
 use Rattle.ics_zone.specs.Observances.{is_until}
 use Rattle.ics_series.specs.FileZones.{clocks_in, IsTimeOf}
 use Rattle.ics_series.proofs.StartSourceLemmas.{calendar-day, kept-time, number-seconds, numbered-number, own-day}
+use Rattle.ics_series.proofs.NearDayLemmas.{day-under}
 use Rattle.ics_series.proofs.RawLemmas.{held-in-days}
 use Rattle.ics_series.proofs.RuleDayLemmas.{come-none, come-one, early-numbered, found-is, given-parts, late-numbered, less-start, number-day, rises-found}
-use Rattle.ics_series.proofs.SettledLemmas.{off-numbered, off-range}
-use Rattle.ics_series.proofs.SettledLemmas.{late-settled}
+use Rattle.ics_series.proofs.SettledLemmas.{late-settled, off-numbered, off-range}
 use Rattle.ics_series.proofs.ListingLemmas.{before-in}
 use Rattle.ics_series.proofs.UnionLemmas.{union-in}
 use Rattle.ics_series.proofs.BeginsLemmas.{before-all, put-before, before-union}
@@ -52,6 +53,10 @@ day-back day h = omega (arith, ints, h.0, h.1)
 
 pub next-back : (day : ℤ) → IsDayNumber day → to_z w32 (of_z w32 (to_z w32 (of_z w32 day) +ℤ pos 1)) ≡ day +ℤ pos 1
 next-back day h = omega (arith, ints, h.0, h.1)
+
+-- and so is an offset of a clock, in an i64
+pub most-back : (most : ℤ) → IsWithin 93_599 most → to_z w64 (of_z w64 most) ≡ most
+most-back most short = omega (arith, ints, short.0, short.1)
 
 -- a local is so many seconds past its day's midnight
 pub midnight-number : (local : Local) → IsDayNumber local.day → number local ≡ midnight_number local.day + local.second
@@ -141,18 +146,31 @@ module _ (s : RuleStarts) where
   given-early day n h l g =
       let t = moment_numbered (clocks_in s.zones) s.event.now n in
       let until = until_moment s.rule in
-      let late = off-numbered s.zones s.event.now day n h l in
-      let off = off-range s.event.now.start.stamp in
+      let late = off-numbered s.zones s.event.now s.bounds s.bounded day n h l in
       let parts = given-parts s.zones s.event.now s.rule s.window n g in
       let first = local_of s.event.now.start.stamp in
       ⊎_elim
       (λ same.
       let is : n ≡ number first = eqb-true n (number s.rule.start) same ∙ s.first in
       let at = number-seconds first (calendar-day first.day (own-day s.event.now.start s.time.is_time)) in
-      ⊎_elim (λ e. omega (arith, ints, late, e, s.after)) (λ e. omega (arith, ints, e, s.after, off, is, at, number-day day h, l))
+      let before = int_min_is (local_seconds first) (ends_at s.window until (local_seconds first) -ℤ pos 1) in
+      ⊎_elim (λ e. omega (arith, ints, late, e, s.after)) (λ e. omega (arith, ints, e, s.first_before, before, is, at, number-day day h, l))
       (within-first s.window until (local_seconds first) t parts.2))
       (λ e. let early = within-until s.window until (local_seconds first) t parts.2 e in omega (arith, ints, late, early, s.after))
       (or_cases (n == number s.rule.start) (is_until until t) parts.1)
+
+  -- all locals to be read are of the years 0000 to 9999
+  pub next-years : IsBetween (year_seconds 0) (year_seconds 10_000) s.next
+  unfolding IsCursorOf
+  next-years = (omega (arith, ints, s.low, s.next_on), omega (arith, ints, s.next_read, s.own.inside))
+
+  -- a local after the next one to be read, and no later than the window's end by any offset of the clock's, is of these years
+  pub passed-day : {last day : ℤ} → s.next <ℤ last → last ≤ℤ (s.window.to +ℤ s.bounds.least) → day ≡ day_of_local last → IsDayNumber day
+  passed-day {last = last} {day = day} late early is =
+      let under = day-under last day is in (
+        omega (arith, ints, under.1, late, next-years),
+        omega (arith, ints, under.0, early, s.window.not_late, s.bounded.least_short),
+      )
 
   -- what is held is no more than the event has in five UTC days
   pub few-held : length (held_in s) ≤ most_in_days (clocks_in s.zones) s.event.now
@@ -180,7 +198,8 @@ module _ (s : RuleStarts) where
   found-settled t m =
       let f = found-is s.zones s.event.now s.rule s.window (place_of s.cursor) t m in
       let after =
-      late-settled s.zones s.event.now s.day s.next f.by day-days (omega (arith, s.read, f.from_place)) (omega (arith, ints, s.next_read, f.from_place)) in
+      late-settled s.zones s.event.now s.bounds s.bounded s.day s.next f.by day-days (omega (arith, s.read, f.from_place))
+      (omega (arith, ints, s.next_read, f.from_place)) in
       omega (arith, ints, after, ap (λ (x : Start). x.moment) f.is)
 
   -- where no local more has to be read the first that is held is the first still to come

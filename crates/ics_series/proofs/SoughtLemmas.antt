@@ -15,16 +15,15 @@ use Rattle.ics_series.specs.Clocks.{Clocks, instant}
 use Rattle.ics_event.specs.Event.{stamp_seconds}
 use Rattle.ics_series.specs.Finish.{end_by, seconds_by, seconds_lasting}
 use Rattle.ics_series.specs.Found.{earlier, earliest, earliest_from, first_met, is_span_met, listed_from, start_at, start_by, IsSought, with_front}
-use Rattle.ics_series.specs.Leeway.{late_by, seconds_back, seconds_off}
+use Rattle.ics_series.specs.Leeway.{late_by, seconds_late}
 use Rattle.ics_series.specs.Listing.{IsIn}
 use Rattle.ics_series.specs.Meeting.{entry_from}
 use Rattle.ics_series.specs.Meets.{Meets}
 use Rattle.ics_series.specs.Starts.{given_by, local_of, recurrence_by, stamp_at, time_at, time_of, GivesStart}
 use Rattle.ics_series.specs.FileZones.{clocks_in, is_past}
 use Rattle.ics_series.proofs.InstantLemmas.{end-bound, instant-near, meets-late, seconds-least}
-use Rattle.ics_series.proofs.SettledLemmas.{off-local}
 use Rattle.ics_series.proofs.NearDayLemmas.{less-le, meets-is_met}
-use Rattle.ics_fields.specs.Locals.{local_seconds, whole_days}
+use Rattle.ics_fields.specs.Locals.{whole_days}
 use Rattle.ics_fields.specs.declared.local.Local.{Local}
 use Rattle.ics_event.specs.Event.{Length}
 use Rattle.ics_values.specs.declared.time.Length.TheVariants.{Lasting, Open, Until}
@@ -216,10 +215,6 @@ module _ (zones : FileZones) (w : Window) (event : Event) where
   late-range [] = late-least event.start.stamp event.length
   late-range (rdate ∷ rdates) = omega (arith, ints)
 
-  -- no more seconds are read back than a local can be off, and some more
-  pub back-least : seconds_off event.start.stamp ≤ℤ seconds_back event
-  back-least = omega (arith, ints, late-range event.rdates)
-
   -- what counts first is no later than the window's end
   pub earliest-soon : (starts : List Start) → earliest (clocks_in zones) w event starts ≤ℤ w.to
   earliest-soon starts =
@@ -231,14 +226,13 @@ module _ (zones : FileZones) (w : Window) (event : Event) where
       first-soon true = omega (arith, ints)
       first-soon false = omega (arith, ints, seconds-least zones event.start event.start.stamp event.length)
 
-  -- So a local whose start is sought is no more seconds before what counts first, nor before its own instant.
-  pub sought-back : (local : Local) → IsSought (clocks_in zones) event w (instant (clocks_in zones) (time_at event.start local)) →
-      ((earliest (clocks_in zones) w event (front (clocks_in zones) w event) -ℤ seconds_back event) ≤ℤ local_seconds local)
-      × ((instant (clocks_in zones) (time_at event.start local) -ℤ seconds_back event) ≤ℤ local_seconds local)
-  sought-back local s =
-      let t = sought-by event.rdates refl (instant (clocks_in zones) (time_at event.start local)) s in
-      let off = off-local zones event local in
-      (omega (arith, ints, t, off.1), omega (arith, ints, late-range event.rdates, off.1))
+  -- so what is sought begins no more before what counts first than an occurrence can end late
+  pub sought-from : (t : ℤ) → IsSought (clocks_in zones) event w t
+      → (earliest (clocks_in zones) w event (front (clocks_in zones) w event) -ℤ seconds_late event) ≤ℤ t
+  sought-from t s = sought-by event.rdates refl t s
+
+  pub late-event : pos 0 ≤ℤ seconds_late event
+  late-event = late-range event.rdates
 
   -- an event without a rule has no other starts
   pub none-else : event.rule ≡ None → (source : StartSource) (given : Rdate) → GivesStart (clocks_in zones) event source given

@@ -71,7 +71,7 @@ module _ {A : Type 0} (R : A → A → Ordering) (o : IsTotalOrder R) where
   merged-is xss h = record { rises = rises-merged R o xss; exact = λ e. (merged-in e xss, in-merged e xss h) }
 
   -- a key is that of nothing in the list with x exactly if it is not x's, and that of nothing in the list
-  no_key-put : (e x : A) (ys : List A) → HasNoKey R e (put R x ys) ↔ ((R e x ≢ Equal) × HasNoKey R e ys)
+  pub no_key-put : (e x : A) (ys : List A) → HasNoKey R e (put R x ys) ↔ ((R e x ≢ Equal) × HasNoKey R e ys)
   no_key-put e x [] = (λ h. h, λ h. h)
   no_key-put e x (y ∷ ys) =
       let ih = no_key-put e x ys in
@@ -80,7 +80,7 @@ module _ {A : Type 0} (R : A → A → Ordering) (o : IsTotalOrder R) where
       (λ p. rw p (λ h. (h.0, (λ t. h.0 (alike_right o x y e p ∙ t), h.1)), λ h. (h.0, h.1.1)))
       (λ p. rw p (λ h. let k = ih.0 h.1 in (k.0, (h.0, k.1)), λ h. (h.1.0, ih.1 (h.0, h.1.1))))
 
-  no_key-union : (e : A) (xs ys : List A) → HasNoKey R e (union R xs ys) ↔ (HasNoKey R e xs × HasNoKey R e ys)
+  pub no_key-union : (e : A) (xs ys : List A) → HasNoKey R e (union R xs ys) ↔ (HasNoKey R e xs × HasNoKey R e ys)
   no_key-union e [] ys = (λ h. (tt, h), λ h. h.1)
   no_key-union e (x ∷ xs) ys =
       let one = no_key-put e x (union R xs ys) in

@@ -4,6 +4,8 @@ use Rattle.std.specs.Prelude.{ℕ, ℤ, pos, ◌+ℤ◌, List, map, slice_index_
 use Rattle.ics_values.specs.declared.stamp.Stamp.{Stamp}
 use Rattle.ics_values.specs.declared.stamp.Stamp.TheVariants.{Date, Floating, Utc, Zoned}
 use Rattle.ics_event.specs.Event.{Time}
+use Rattle.ics_zone.specs.Bounds.{HasBounds}
+use Rattle.ics_zone.specs.declared.bounds.Bounds.{Bounds}
 use Rattle.ics_zone.specs.ZoneSaid.{ZoneSaid, display_said, said_moment, said_offset}
 use Rattle.ics_zone.specs.declared.display.Display.{Display}
 use Rattle.ics_event.specs.Event.{stamp_seconds}
@@ -61,3 +63,7 @@ clock_of clocks time = clock_by clocks time.zone time.stamp
 -- the instant of a time
 abbrev pub instant : Clocks → Time → ℤ
 instant clocks time = (clock_of clocks time).moment (stamp_seconds time.stamp)
+
+-- a clock stays between these offsets
+abbrev pub IsBounded : Clock → Bounds → Type 0
+IsBounded clock b = HasBounds clock.offset clock.moment b.least b.most

@@ -29,6 +29,10 @@ late_by [] (Utc local) length = pos 0
 late_by [] (Zoned local) length = late_by_length length
 late_by (rdate ∷ rdates) stamp length = whole_days 4
 
+-- how many seconds later an occurrence of the event can end than the seconds of its length say
+abbrev pub seconds_late : Event → ℤ
+seconds_late event = late_by event.rdates event.start.stamp event.length
+
 -- A start that can count from an instant on has its local there or later, or no more than so many seconds earlier.
 abbrev pub seconds_back : Event → ℤ
-seconds_back event = seconds_off event.start.stamp +ℤ late_by event.rdates event.start.stamp event.length
+seconds_back event = seconds_off event.start.stamp +ℤ seconds_late event

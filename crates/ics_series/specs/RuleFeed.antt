@@ -1,8 +1,11 @@
 -- What contracts see of the starts of a rule, which are read one by one.
-use Rattle.std.specs.Prelude.{◌≡◌, ℤ, Bool, List}
+use Rattle.std.specs.Prelude.{◌≡◌, ◌<◌, ◌≤◌, ◌-ℤ◌, ℕ, ℤ, pos, Bool, true, List}
+use Rattle.ics_fields.specs.Locals.{year_number}
 use Rattle.ics_rule.specs.Cursors.{place_of}
 use Rattle.ics_series.specs.declared.rule_starts.RuleStarts.{RuleStarts}
 use Rattle.ics_series.specs.declared.start.Start.{Start}
+use Rattle.ics_series.specs.Clocks.{clock_of}
+use Rattle.ics_series.specs.Exclusions.{is_day_in}
 use Rattle.ics_series.specs.RuleStarts.{is_behind, settled_by, to_come}
 use Rattle.ics_series.specs.FileZones.{clocks_in}
 use Rattle.ics_series.specs.Waiting.{starts_in}
@@ -17,7 +20,7 @@ starts_left s = to_come (clocks_in s.zones) s.event.now s.rule s.window (held_in
 
 -- an instant that is before those of all locals to be read
 abbrev pub settled_in : RuleStarts → ℤ
-settled_in s = settled_by s.event.now.start.stamp s.day s.next
+settled_in s = settled_by s.event.now.start.stamp s.bounds.most s.day s.next
 
 -- another local has to be read before the first start still to come is known
 abbrev pub is_unsettled : RuleStarts → Bool
@@ -31,3 +34,11 @@ pub record HasSameSource (old new : RuleStarts) : Type 0 where
   pub rule : new.rule ≡ old.rule
   pub from : new.from ≡ old.from
   pub end : new.end ≡ old.end
+
+-- The same starts, where locals were passed over at which the clock of DTSTART shows one of these days: none of them is read.
+pub record HasSkipped (days : List ℤ) (old new : RuleStarts) : Type 0 where
+  pub source : HasSameSource old new
+  pub on : place_of old.cursor ≤ place_of new.cursor
+  pub left : starts_left new ≡ to_come (clocks_in old.zones) old.event.now old.rule old.window (held_in old) (place_of new.cursor)
+  pub shown : (n : ℕ) → place_of old.cursor ≤ n → n < place_of new.cursor → is_day_in (clock_of (clocks_in old.zones) old.event.now.start) days
+      ((clock_of (clocks_in old.zones) old.event.now.start).moment (pos n -ℤ pos (year_number 1_970))) ≡ true

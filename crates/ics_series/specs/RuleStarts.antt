@@ -91,13 +91,17 @@ pub record IsHeld (clocks : Clocks) (event : Event) (rule : Recurrence) (w : Win
 abbrev pub AreHeld : Clocks → Event → Recurrence → Window → ℤ → List Start → Type 0
 AreHeld clocks event rule w day starts = (s : Start) → IsIn s starts → IsHeld clocks event rule w day s
 
--- An instant that is before those of all locals to be read: they are from a day's midnight on, and their seconds from `next` on. A date is read
--- at its midnight, a local in UTC is its instant, and no zone moves a local by more than 93,599 seconds.
-abbrev pub settled_by : Stamp → ℤ → ℤ → ℤ
-settled_by (Date first) day next = midnight day -ℤ whole_days 2
-settled_by (Utc first) day next = next -ℤ pos 1
-settled_by (Floating first) day next = next -ℤ pos 93_600
-settled_by (Zoned first) day next = next -ℤ pos 93_600
+-- the seconds of the first local that can be read: a date is read at its midnight
+abbrev pub read_from : Stamp → ℤ → ℤ → ℤ
+read_from (Date first) day next = midnight day
+read_from (Floating first) day next = next
+read_from (Utc first) day next = next
+read_from (Zoned first) day next = next
+
+-- An instant that is before those of all locals to be read: they are from a day's midnight on, and their seconds from `next` on, on a clock that is
+-- at most so many seconds ahead.
+abbrev pub settled_by : Stamp → ℤ → ℤ → ℤ → ℤ
+settled_by first most day next = read_from first day next -ℤ most -ℤ pos 1
 
 -- the first start is not after an instant
 abbrev pub is_ready : ℤ → List Start → Bool

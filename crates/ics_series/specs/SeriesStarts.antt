@@ -1,5 +1,5 @@
 -- The starts of a series still to come, and the occurrences that they give.
-use Rattle.std.specs.Prelude.{◌≡◌, ◌≤ℤ◌, ℤ, ◌+ℤ◌, ◌-ℤ◌, Bool, true, false, ◌&&◌, not, int_le, List, [], ◌∷◌, drop, Option, None, Some, ◌⊎◌}
+use Rattle.std.specs.Prelude.{◌≡◌, ◌<◌, ◌≤◌, ◌<ℤ◌, ◌≤ℤ◌, ℕ, ℤ, ◌+ℤ◌, ◌-ℤ◌, Bool, true, false, ◌&&◌, not, int_le, List, [], ◌∷◌, drop, Option, None, Some, ◌⊎◌}
 use Rattle.std.specs.Prelude.{if◌then◌else◌, is_none}
 use Rattle.std.specs.Int.{int_max, int_min}
 use Rattle.std.specs.List.{filter_map, list_any}
@@ -19,13 +19,14 @@ use Rattle.ics_series.specs.Clocks.{Clocks, instant}
 use Rattle.ics_series.specs.Entry.{Entry}
 use Rattle.ics_series.specs.Exclusions.{is_excluded}
 use Rattle.ics_series.specs.Found.{earliest, listed_from, moment_cmp, start_at, IsStartIn}
-use Rattle.ics_series.specs.Leeway.{seconds_back}
+use Rattle.ics_series.specs.FileZones.{clocks_in}
+use Rattle.ics_series.specs.Leeway.{seconds_back, seconds_late}
 use Rattle.ics_series.specs.Listing.{IsIn}
 use Rattle.ics_series.specs.Meeting.{entry_from, is_met}
 use Rattle.ics_series.specs.Merged.{cut, union}
 use Rattle.ics_series.specs.Meets.{IsEventMet}
-use Rattle.ics_series.specs.RuleFeed.{is_unsettled, starts_left, HasSameSource}
-use Rattle.ics_series.specs.RuleStarts.{found}
+use Rattle.ics_series.specs.RuleFeed.{is_unsettled, starts_left, HasSameSource, HasSkipped}
+use Rattle.ics_series.specs.RuleStarts.{found, moment_numbered}
 use Rattle.ics_series.specs.Starts.{local_of, recurrence_of, time_at, IsRuleStart}
 
 -- an occurrence of the event that meets the window and begins at this instant or later
@@ -56,6 +57,12 @@ HasSameRule None None = Unit {0}
 HasSameRule (Some old) (Some new) = HasSameSource old new
 HasSameRule _ _ = ⊥
 
+-- of the rule, if there is one, locals were passed over at which the clock of DTSTART shows one of these days
+abbrev pub AreSkipped : List ℤ → Option RuleStarts → Option RuleStarts → Type 0
+AreSkipped days None None = Unit {0}
+AreSkipped days (Some old) (Some new) = HasSkipped days old new
+AreSkipped days _ _ = ⊥
+
 -- the starts that are known from the beginning: those by RDATEs and, if there is no rule, the one at DTSTART
 abbrev pub listed_apart : Clocks → Window → Event → Option RuleParts → List Start
 listed_apart clocks w event None = start_at clocks event (local_of event.start.stamp) ∷ listed_from clocks w event.start 0 event.rdates
@@ -65,25 +72,29 @@ listed_apart clocks w event (Some parts) = listed_from clocks w event.start 0 ev
 abbrev pub first_asked : Clocks → Window → Event → ℤ → List Start → ℤ
 first_asked clocks w event since starts = int_max (earliest clocks w event starts) (int_min since (w.to +ℤ whole_days 14))
 
--- the starts that the event's rule gives by the locals from one on, which is not past DTSTART, or is so many seconds or more before the
--- first instant that is needed
+-- The locals from DTSTART's on and before this one mean instants before one by more seconds than an occurrence of the event can end late.
+abbrev pub AreTooEarly : Clocks → Event → Local → ℤ → Type 0
+AreTooEarly clocks event from first = (n : ℕ) → number (local_of event.start.stamp) ≤ n → n < number from
+    → moment_numbered clocks event n <ℤ (first -ℤ seconds_late event)
+
+-- The starts that the event's rule gives by the locals from one on. By none before it can it give one that is needed.
 pub record IsRuleFrom (clocks : Clocks) (event : Event) (w : Window) (since : ℤ) (listed starts : List Start) : Type 0 where
   pub rule : Recurrence
   pub has : recurrence_of event ≡ Some rule
   pub from : Local
   pub day : IsDayNumber from.day
-  pub low : local_seconds from ≤ℤ int_max (local_seconds (local_of event.start.stamp)) (first_asked clocks w event since listed -ℤ seconds_back event)
+  pub low : AreTooEarly clocks event from (first_asked clocks w event since listed)
   pub gives : starts ≡ found clocks event rule w (number from)
 
 -- These starts are those of this event's rule in this window. They are read from a local on that is not before DTSTART, and no more than
--- so many seconds and a day before the first instant that is needed. It is DTSTART, or so many seconds or more before that instant.
+-- so many seconds and a day before the first instant that is needed. By none before it can the rule give one that is needed.
 pub record IsOwnRule (zones : FileZones) (event : Event) (w : Window) (first : ℤ) (s : RuleStarts) : Type 0 where
   pub zones_are : s.zones ≡ zones
   pub event_is : s.event.now ≡ event
   pub window_is : s.window ≡ w
   pub day : IsDayNumber s.from.day
   pub late : int_max (local_seconds (local_of event.start.stamp)) (first -ℤ (seconds_back event +ℤ whole_days 1)) ≤ℤ local_seconds s.from
-  pub low : local_seconds s.from ≤ℤ int_max (local_seconds (local_of event.start.stamp)) (first -ℤ seconds_back event)
+  pub low : AreTooEarly (clocks_in zones) event s.from first
 
 -- there are none only if the event has no rule
 abbrev pub HasOwnRule : FileZones → Event → Window → ℤ → Option RuleStarts → Type 0

@@ -14,7 +14,7 @@ use crate::window::Window;
 use crate::zones::FileZones;
 use ics_event::{Event, Time};
 use ics_values::{Local, Moment, Stamp};
-use ics_zone::Place;
+use ics_zone::{Bounds, Place};
 use std::alloc::{AllocError, Global};
 
 /// The instants that the EXDATEs of an event remove and, if the event has date-times, the days that
@@ -28,7 +28,11 @@ pub(crate) struct Exclusions {
 }
 
 impl Exclusions {
-    ghost use Rattle.ics_series.specs.Exclusions.{AreExclusions};
+    ghost use Rattle.std.specs.Prelude.{true, MatchOption};
+    ghost use Rattle.jiff_core.specs.Calendar.{IsBetween, IsWithin};
+    ghost use Rattle.ics_fields.specs.Locals.{year_seconds};
+    ghost use Rattle.ics_series.specs.Clocks.{Clock, IsBounded};
+    ghost use Rattle.ics_series.specs.Exclusions.{is_day_in, AreExclusions};
     ghost use Rattle.ics_series.specs.FileZones.{IsOwnEvent};
 
     // What the EXDATEs remove from the starts before the window's end.
@@ -75,6 +79,31 @@ impl Exclusions {
         }
         let day = shown_day(zones, first, moment);
         self.days.binary_search(&day).is_ok()
+    }
+
+    /// The end, in seconds, of the locals from one on at which the clock shows a removed day whatever offset between these two it has. None if
+    /// there are no such locals.
+    pub(crate) fn skips(&self, next: Moment, bounds: Bounds) -> Option<Moment>
+        requires next { IsBetween (year_seconds 0) (year_seconds 10_000) next }
+        requires least { IsWithin 93_599 bounds.least }
+        requires most { IsWithin 93_599 bounds.most }
+        ensures { MatchOption result (Unit {0}) (λ to. (clock : Clock) → IsBounded clock bounds → (local : ℤ) → next ≤ℤ local → local <ℤ to
+            → is_day_in clock self.now.days.items (clock.moment local) ≡ true) }
+    {
+        if self.days.is_empty() {
+            return None;
+        }
+        let local = Local::of_seconds(next);
+        let second = i64::from(local.second);
+        let apart = bounds.most - bounds.least;
+        if second < apart {
+            return None;
+        }
+        let left = 86_400 - second - apart;
+        match self.days.binary_search(&local.day) {
+            Ok(_) => Some(next + left),
+            Err(_) => None,
+        }
     }
 }
 

@@ -1,14 +1,15 @@
 //! The instants of times.
-ghost use Rattle.std.specs.Prelude.{◌≡◌};
-ghost use Rattle.ics_series.specs.Clocks.{instant};
+ghost use Rattle.std.specs.Prelude.{◌≡◌, ◌≤ℤ◌, ◌-ℤ◌, pos};
+ghost use Rattle.ics_series.specs.Clocks.{clock_of, instant, IsBounded};
 ghost use Rattle.ics_series.specs.FileZones.{clocks_in, is_past, IsTimeOf};
+ghost use Rattle.ics_series.specs.Leeway.{seconds_off};
 
 use crate::start::local_of;
 use crate::window::Window;
 use crate::zones::FileZones;
 use ics_event::Time;
 use ics_values::{Local, Moment, Stamp};
-use ics_zone::Place;
+use ics_zone::{Bounds, Place};
 
 /// The instant of a time. A date, as its midnight, and a floating local are read in the display zone, a
 /// zoned local in its own zone (RFC 5545, section 3.3.5).
@@ -21,6 +22,20 @@ pub(crate) fn instant(zones: FileZones<'_>, time: Time) -> Moment
         Stamp::Floating(local) => zones.display.moment(local),
         Stamp::Utc(local) => local.seconds(),
         Stamp::Zoned(local) => zones.zone_of(time).moment(local),
+    }
+}
+
+/// Two offsets between which the clock of a time stays.
+pub(crate) fn bounds(zones: FileZones<'_>, time: Time) -> Bounds
+    requires { IsTimeOf zones.zones.now time }
+    ensures bounded { IsBounded (clock_of (clocks_in zones.entry) time) result }
+    ensures most { result.most ≤ℤ seconds_off time.stamp }
+    ensures least { (pos 0 -ℤ seconds_off time.stamp) ≤ℤ result.least }
+{
+    match time.stamp {
+        Stamp::Date(_) | Stamp::Floating(_) => zones.display.bounds(),
+        Stamp::Utc(_) => Bounds { least: 0, most: 0 },
+        Stamp::Zoned(_) => zones.zone_of(time).bounds(),
     }
 }
 

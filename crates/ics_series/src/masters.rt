@@ -7,7 +7,7 @@ ghost use Rattle.ics_event.specs.declared.event.Event.{Event};
 ghost use Rattle.ics_series.specs.Clocks.{display_clock};
 ghost use Rattle.ics_series.specs.Entry.{entry_cmp, key_rank};
 ghost use Rattle.ics_series.specs.Listing.{IsListing};
-ghost use Rattle.ics_series.specs.Inner.Marks.{AreMarks, IsMarkOf};
+ghost use Rattle.ics_series.specs.Inner.Marks.{AreMarks, IsBegun, IsMarkOf};
 ghost use Rattle.ics_series.specs.Inner.Masters.{HasLists, HasSources, IsOfVersion, IsSince, IsSourceOf, Recurs};
 ghost use Rattle.ics_series.specs.AgendaParts.{part_coming, part_sources};
 ghost use Rattle.ics_series.specs.SeriesFeed.{series_left, series_of, series_sources, IsSameSeries};
@@ -127,6 +127,8 @@ fn series_at<'a>(
         (option_map (λ key. key_rank key.now) after.entry) (seen version)) (⟦<Series<'a> as Coming>⟧.coming series))) }
     ensures since { option_map (λ key. key_rank key.now) after.entry ≡ None
         → IfOk result (λ given. MatchOption given (Unit {0}) (λ series. series.since ≤ℤ series.window.from)) }
+    ensures begun { IfOk result (λ given. MatchOption given (Unit {0}) (λ series. MatchOption series.rule_starts (Unit {0})
+        (λ s. IsBegun s.rule s.from s.cursor))) }
     ensures sources { (version : Version) → slice_get chosen.entry.now place ≡ Some version → IfOk result (λ given. MatchOption given (Unit {0})
         (λ series. (m : Recurring) × IsSourceOf (map said_by files.entry.now) (display_clock display.entry.now) window
         (option_map (λ key. key_rank key.now) after.entry) (seen version) m × (series_sources series ≡ Of m ∷ []))) }

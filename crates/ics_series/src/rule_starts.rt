@@ -1,5 +1,6 @@
 //! The starts that the rule of an event gives, read one UTC day at a time.
-ghost use Rattle.std.specs.Prelude.{◌≡◌, ◌≤◌, ◌<ℤ◌, ◌≤ℤ◌, ◌+ℤ◌, ◌&&◌, pos, true, int_lt, IfOk, OnErr, OnOk, Some};
+ghost use Rattle.std.specs.Prelude.{◌≡◌, ◌≤◌, ◌<ℤ◌, ◌≤ℤ◌, ◌+ℤ◌, ◌-ℤ◌, ◌&&◌, pos, true, int_lt, IfOk, OnErr, OnOk, Some};
+ghost use Rattle.jiff_core.specs.Calendar.{IsBetween, IsWithin};
 ghost use Rattle.ics_fields.specs.Days.{IsDayNumber};
 ghost use Rattle.ics_rule.specs.Cursors.{place_of, IsCursorOf};
 ghost use Rattle.ics_rule.specs.Kept.{is_kept, until_moment};
@@ -7,17 +8,21 @@ ghost use Rattle.ics_fields.specs.Locals.{local_seconds, number, midnight, whole
 ghost use Rattle.ics_series.specs.EventLaws.{time-prop};
 ghost use Rattle.ics_series.specs.Found.{moment_cmp, start_at};
 ghost use Rattle.ics_series.specs.Leeway.{seconds_off};
-ghost use Rattle.ics_series.specs.Inner.Marks.{begun-prop, IsBegun};
+ghost use Rattle.ics_series.specs.Inner.Marks.{IsBegun};
 ghost use Rattle.ics_series.specs.Inner.Quiet.{beyond-prop, AreBeyond};
 ghost use Rattle.ics_series.specs.Rising.{Rises, Rises-prop};
 ghost use Rattle.ics_series.specs.Clocks.{instant};
 ghost use Rattle.ics_series.specs.RuleStarts.{ends_at, gives, lets_until, midnight_number, settled_by, with_held, AreHeld, HasLookedTo};
-ghost use Rattle.ics_series.specs.Inner.RuleStartLaws.{cursor-prop, held-prop, looked-prop, rule-prop};
+ghost use Rattle.ics_series.specs.Inner.RuleStartLaws.{bounded-prop, cursor-prop, held-prop, looked-prop, rule-prop};
 ghost use Rattle.ics_series.specs.Starts.{local_of, recurrence_of, time_at};
 ghost use Rattle.ics_series.specs.FileZones.{clocks_in, IsTimeOf};
 ghost use Rattle.ics_series.specs.Waiting.{starts_in};
 ghost use Rattle.ics_rule.specs.PeriodNumbers.{rules_end};
+ghost use Rattle.ics_series.specs.Clocks.{clock_of, IsBounded};
+ghost use Rattle.std.specs.Int.{int_min};
 
+use crate::exclusion::Exclusions;
+use crate::instant::bounds;
 use crate::listed::lesser_past;
 use crate::mark::{Mark, begun};
 use crate::queue::{Queue, Waiting};
@@ -28,10 +33,8 @@ use crate::zones::FileZones;
 use ics_event::Event;
 use ics_rule::{Cursor, Rule};
 use ics_values::{Local, Moment, Stamp};
+use ics_zone::Bounds;
 use std::alloc::{AllocError, Global};
-
-/// The most by which a time zone changes a local, and a second more.
-const FAR: i64 = 93_600;
 
 /// The starts that a rule gives before a window's end. All locals before the midnight of `day` have
 /// been read, and so have those whose seconds are before `next`. Those of their starts that were not
@@ -42,9 +45,10 @@ pub(crate) struct RuleStarts<'a> {
     event: &'a Event,
     window: Window,
     rule: Rule,
-    /// The local at which the cursor began, and the cursor as it was then.
+    /// Two offsets between which the clock of DTSTART stays.
+    bounds: Bounds,
+    /// The local at which the cursor began.
     from: Local,
-    begun: Cursor,
     cursor: Cursor,
     day: i32,
     /// No period was looked at for a local from this day on. It is `day` or, while that is read, the next.
@@ -59,7 +63,6 @@ pub(crate) struct RuleStarts<'a> {
     ghost rises: { Rises moment_cmp (starts_in event.now.start held) } by { Rises-prop moment_cmp (starts_in event.now.start held) },
     ghost are: { AreHeld (clocks_in zones) event.now rule window asked (starts_in event.now.start held) } by { held-prop (clocks_in zones) event.now rule
         window asked (starts_in event.now.start held) },
-    ghost begins: { IsBegun rule from begun } by { begun-prop rule from begun },
     ghost past_end: { AreBeyond (clocks_in zones) event.now rule window (number from) (place_of cursor) beyond } by { beyond-prop (clocks_in zones)
         event.now rule window (number from) (place_of cursor) beyond },
     ghost own: { IsCursorOf rule cursor } by { cursor-prop rule cursor },
@@ -74,8 +77,10 @@ pub(crate) struct RuleStarts<'a> {
     ghost asked_soon: { asked ≤ℤ (day +ℤ pos 1) },
     ghost asked_end: { asked ≤ℤ end },
     ghost early: { midnight_number end ≤ rules_end },
-    ghost after: { (ends_at window (until_moment rule) (local_seconds (local_of event.now.start.stamp)) +ℤ seconds_off event.now.start.stamp)
-        ≤ℤ midnight end },
+    ghost bounded: { IsBounded (clock_of (clocks_in zones) event.now.start) bounds } by { bounded-prop (clock_of (clocks_in zones) event.now.start) bounds },
+    ghost after: { (ends_at window (until_moment rule) (local_seconds (local_of event.now.start.stamp)) +ℤ bounds.most) ≤ℤ midnight end },
+    ghost first_before: { int_min (local_seconds (local_of event.now.start.stamp))
+        (ends_at window (until_moment rule) (local_seconds (local_of event.now.start.stamp)) -ℤ pos 1) <ℤ midnight end },
     ghost soon: { midnight end
         <ℤ (ends_at window (until_moment rule) (local_seconds (local_of event.now.start.stamp)) +ℤ (seconds_off event.now.start.stamp +ℤ whole_days 1)) },
 }
@@ -126,26 +131,26 @@ fn hold(
     Ok(start.moment)
 }
 
-// An instant that is before those of all locals of a day and later ones, of which none is before an
-// instant in seconds. A date is read at its midnight, and a local in UTC is its instant.
-fn settled_by(start: Stamp, day: i32, next: Moment) -> Moment
-    requires { year_seconds 0 ≤ℤ next }
-    ensures { result ≡ settled_by start day next }
+// An instant that is before those of all locals of a day and later ones, of which none is before one in
+// seconds, on a clock that is at most so many seconds ahead of UTC. A date is read at its midnight.
+fn settled_by(start: Stamp, most: i64, day: i32, next: Moment) -> Moment
+    requires most { IsWithin 93_599 most }
+    requires next { IsBetween (year_seconds 0) (year_seconds 10_000) next }
+    ensures { result ≡ settled_by start most day next }
 {
     match start {
-        Stamp::Date(_) => Local::at(day, 0).seconds() - 2 * 86_400,
-        Stamp::Utc(_) => next - 1,
-        Stamp::Floating(_) | Stamp::Zoned(_) => next - FAR,
+        Stamp::Date(_) => Local::at(day, 0).seconds() - most - 1,
+        _ => next - most - 1,
     }
 }
 
 impl<'a> RuleStarts<'a> {
-    ghost use Rattle.std.specs.Prelude.{◌≡◌, ◌+◌, ◌-◌, ◌<◌, ◌≤ℤ◌, false, length, slice_get, IfOk, MatchOption, OnOk, Some};
+    ghost use Rattle.std.specs.Prelude.{◌≡◌, ◌+◌, ◌-◌, ◌<◌, ◌≤ℤ◌, ℕ, false, length, slice_get, IfOk, MatchOption, OnOk, Some};
     ghost use Rattle.ics_rule.specs.Cursors.{steps_of};
     ghost use Rattle.ics_series.specs.Listing.{IsIn};
     ghost use Rattle.ics_series.specs.Merged.{cut};
-    ghost use Rattle.ics_series.specs.RuleFeed.{held_in, is_unsettled, settled_in, starts_left, HasSameSource};
-    ghost use Rattle.ics_series.specs.RuleStarts.{found, is_ready, steps_left};
+    ghost use Rattle.ics_series.specs.RuleFeed.{held_in, is_unsettled, settled_in, starts_left, HasSameSource, HasSkipped};
+    ghost use Rattle.ics_series.specs.RuleStarts.{found, is_ready, steps_left, to_come};
     ghost use Rattle.ics_series.specs.FileZones.{IsOwnEvent};
     ghost use Rattle.ics_series.specs.Inner.Marks.{IsCountMark};
     ghost use Rattle.ics_series.specs.Inner.Quiet.{AreQuiet};
@@ -170,20 +175,21 @@ impl<'a> RuleStarts<'a> {
         ensures window { result.window ≡ window }
         ensures rule { result.rule ≡ rule }
         ensures from { result.from ≡ from }
+        ensures begun { IsBegun result.rule result.from result.cursor }
     {
-        let end = end_nearby(&window, rule.until_moment(), event.start.stamp);
+        let bounds = bounds(zones, event.start);
+        let end = end_nearby(&window, rule.until_moment(), event.start.stamp, bounds.most);
         let day = from.day.min(end);
         let begun = begun(&rule, from, end, mark);
-        let cursor = begun;
         let next = Local::at(day, 0).seconds();
         RuleStarts {
             zones,
             event,
             window,
             rule,
+            bounds,
             from,
-            begun,
-            cursor,
+            cursor: begun,
             day,
             asked: day,
             end,
@@ -209,7 +215,7 @@ impl<'a> RuleStarts<'a> {
         ensures { result ≡ settled_in self.now }
     {
         let event = self.event;
-        settled_by(event.start.stamp, self.day, self.next)
+        settled_by(event.start.stamp, self.bounds.most, self.day, self.next)
     }
 
     // Whether the first held start is before all starts that later locals give.
@@ -316,6 +322,33 @@ impl<'a> RuleStarts<'a> {
         }
     }
 
+    // Passes over locals before one in seconds: those that mean an instant before the window's end, whatever offset of the clock's holds. What
+    // later ones give is known to `beyond` only if they are read.
+    fn pass_to(&mut self, to: Moment)
+        ensures left { starts_left self.new ≡ to_come (clocks_in self.old.zones) self.old.event.now self.old.rule self.old.window (held_in self.old)
+            (place_of self.new.cursor) }
+        ensures on { place_of self.old.cursor ≤ place_of self.new.cursor }
+        ensures passed { (n : ℕ) → place_of self.old.cursor ≤ n → n < place_of self.new.cursor → pos n <ℤ (to +ℤ pos (year_number 1_970)) }
+        ensures source { HasSameSource self.old self.new }
+    {
+        let end = self.window.to + self.bounds.least;
+        let last = to.min(end);
+        if self.next < last {
+            self.cursor.pass(&self.rule, Local::of_seconds(last));
+            self.next = last;
+        }
+    }
+
+    /// Passes over the next locals, if at all of them the clock shows a removed day. None of them is read.
+    pub(crate) fn skip(&mut self, exclusions: &Exclusions)
+        ensures { HasSkipped exclusions.now.days.items self.old self.new }
+    {
+        match exclusions.skips(self.next, self.bounds) {
+            None => {}
+            Some(to) => self.pass_to(to),
+        }
+    }
+
     /// An instant before which none of the starts still to come is.
     pub(crate) fn from(&self) -> Moment
         ensures { (start : Start) → IsIn start (starts_left self.now) → result ≤ℤ start.moment }
@@ -337,19 +370,25 @@ impl<'a> RuleStarts<'a> {
             Some(until) if until < self.window.to => Moment::MAX,
             _ => {
                 let next = self.cursor.quiet(&self.rule);
-                self.beyond
-                    .min(settled_by(event.start.stamp, next.day, next.seconds()))
+                let settled = settled_by(
+                    event.start.stamp,
+                    self.bounds.most,
+                    next.day,
+                    next.seconds(),
+                );
+                self.beyond.min(settled)
             }
         }
     }
 
-    /// Where the search began.
+    /// Where the search begins. Nothing was read yet.
     pub(crate) fn mark(&self) -> Mark
+        requires { IsBegun self.now.rule self.now.from self.now.cursor }
         ensures { IsBegun self.now.rule result.from result.cursor }
     {
         Mark {
             from: self.from,
-            cursor: self.begun,
+            cursor: self.cursor,
         }
     }
 

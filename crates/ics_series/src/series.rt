@@ -6,19 +6,20 @@ ghost use Rattle.ics_series.specs.EventLaws.{own-event-prop};
 ghost use Rattle.ics_series.specs.Exclusions.{AreExclusions};
 ghost use Rattle.ics_series.specs.Found.{moment_cmp, IsStartIn};
 ghost use Rattle.ics_series.specs.Listing.{IsIn};
-ghost use Rattle.ics_series.specs.Inner.Marks.{IsMarkOf};
+ghost use Rattle.ics_series.specs.Inner.Marks.{IsBegun, IsMarkOf};
 ghost use Rattle.ics_series.specs.Inner.Quiet.{AreQuiet};
 ghost use Rattle.ics_series.specs.Merged.{cut};
 ghost use Rattle.ics_series.specs.Rising.{Rises, Rises-prop};
 ghost use Rattle.ics_series.specs.RuleFeed.{starts_left};
 ghost use Rattle.ics_series.specs.SeriesLaws.{own-rule-prop, ruled-prop, starts-in-prop, taken-out-prop};
 ghost use Rattle.ics_series.specs.SeriesStarts.{first_asked, first_of, given_of, left, listed_apart, listed_left, rule_asked, rule_left, AreStartsIn};
-ghost use Rattle.ics_series.specs.SeriesStarts.{HasOwnRule, HasRuled, HasSameRule, IsFirstOf, IsReady, IsRuleFrom};
+ghost use Rattle.ics_series.specs.SeriesStarts.{AreSkipped, HasOwnRule, HasRuled, HasSameRule, IsFirstOf, IsReady, IsRuleFrom};
 ghost use Rattle.ics_series.specs.FileZones.{clocks_in, IsOwnEvent};
 ghost use Rattle.ics_series.specs.declared.start.Start.{Start};
 
 use crate::exclusion::Exclusions;
 use crate::feed::{Begins, Coming, Feed};
+use crate::instant::bounds;
 use crate::listed::{listed_again, push_listed};
 use crate::listed_starts::ListedStarts;
 use crate::mark::{Mark, counted};
@@ -30,7 +31,7 @@ use crate::window::Window;
 use crate::zones::FileZones;
 use ics_event::Event;
 use ics_rule::Rule;
-use ics_values::Moment;
+use ics_values::{Moment, Stamp};
 use std::alloc::{AllocError, Global};
 
 /// The occurrences of an event that meet a window and begin at an instant or later.
@@ -48,6 +49,8 @@ pub(crate) struct Series<'a> {
     ghost taken_out: { AreExclusions (clocks_in zones) event.now window exclusions.instants.items exclusions.days.items } by { taken-out-prop (clocks_in zones)
         event.now window exclusions.instants.items exclusions.days.items },
     ghost known: { AreStartsIn zones (left rule_starts listed) } by { starts-in-prop zones (left rule_starts listed) },
+    // A start that the rule hides may come to light.
+    ghost listed_known: { AreStartsIn zones (listed_left listed) } by { starts-in-prop zones (listed_left listed) },
     ghost ruled: { HasRuled (clocks_in zones) event.now rule_starts
         (given_of (clocks_in zones) window event.now since (left rule_starts listed)) } by { ruled-prop (clocks_in zones) event.now rule_starts
             (given_of (clocks_in zones) window event.now since (left rule_starts listed)) },
@@ -93,17 +96,19 @@ fn starts_by_rule<'a>(
     ensures own { HasOwnRule zones.entry event.entry.now window (first_asked (clocks_in zones.entry) window event.entry.now since listed.entry.now) result }
     ensures from { MatchOption result (event.entry.now.rule ≡ None)
         (λ starts. IsRuleFrom (clocks_in zones.entry) event.entry.now window since listed.entry.now (starts_left starts)) }
+    ensures begun { MatchOption result (Unit {0}) (λ starts. IsBegun starts.rule starts.from starts.cursor) }
 {
     let parts = *event.rule.as_ref()?.parts();
     let first = local_of(event.start.stamp);
     let rule = Rule::new(parts, first, kind_of(event.start.stamp));
+    let bounds = bounds(zones, event.start);
     let earliest = earliest(zones, event, &window, listed);
     // All instants this late after the window's end are treated as one: no day is read for them.
     let late = window.to + 14 * 86_400;
     // A search under COUNT goes on from the midnight where another began.
     let from = first_nearby(
         first,
-        seconds_back(event),
+        seconds_back(event, bounds.least),
         parts.count.is_some(),
         earliest.max(since.min(late)),
     );
@@ -133,6 +138,15 @@ fn pass_rule(rule: &mut Option<RuleStarts<'_>>, start: &Start)
 {
     if let Some(starts) = rule {
         starts.pass(start);
+    }
+}
+
+// Passes over the next locals of a rule, if the clock shows a removed day at all of them.
+fn skip_rule(rule: &mut Option<RuleStarts<'_>>, exclusions: &Exclusions)
+    ensures { AreSkipped exclusions.now.days.items rule.old rule.new }
+{
+    if let Some(starts) = rule {
+        starts.skip(exclusions);
     }
 }
 
@@ -187,7 +201,7 @@ fn rule_quiet(rule: &Option<RuleStarts<'_>>) -> Moment
 }
 
 impl<'a> Series<'a> {
-    ghost use Rattle.std.specs.Prelude.{[], false, IfOk, OnErr};
+    ghost use Rattle.std.specs.Prelude.{◌≤◌, [], false, length, IfOk, OnErr};
     ghost use Rattle.std.specs.Option.{option_map};
     ghost use Rattle.ics_series.specs.Entry.{Entry, entry_of};
     ghost use Rattle.ics_series.specs.Inner.Quiet.{IsQuietTo};
@@ -210,6 +224,7 @@ impl<'a> Series<'a> {
             (IsSeriesMet (clocks_in zones.entry) event.entry.now window since)
             (⟦<Series<'a> as Coming>⟧.coming series)) }
         ensures sources { IfOk result (λ series. series_sources series ≡ source_of (clocks_in zones.entry) event.entry.now window since) }
+        ensures begun { IfOk result (λ series. MatchOption series.rule_starts (Unit {0}) (λ s. IsBegun s.rule s.from s.cursor)) }
     {
         let exclusions = Exclusions::new(alloc, zones, event, &window)?;
         let listed = listed_apart(alloc, zones, event, &window)?;
@@ -246,6 +261,7 @@ impl<'a> Series<'a> {
                 return Ok(true);
             }
             self.take()?;
+            self.skip_removed();
         }
         Ok(false)
     }
@@ -273,6 +289,20 @@ impl<'a> Series<'a> {
             self.listed.pass(&start);
         }
         Ok(first)
+    }
+
+    // Passes over locals that the rule need not be read for, since what they give is removed.
+    fn skip_removed(&mut self)
+        ensures coming { series_of self.new (series_left self.new) ≡ series_of self.old (series_left self.old) }
+        ensures fewer { length (series_left self.new) ≤ length (series_left self.old) }
+        ensures same { IsSameSeries self.old self.new }
+    {
+        // Of dates no day is removed, but the instant of its midnight.
+        let event = self.event;
+        match event.start.stamp {
+            Stamp::Date(_) => {}
+            _ => skip_rule(&mut self.rule_starts, &self.exclusions),
+        }
     }
 
     // The occurrence with a start, if it belongs to the list.
@@ -311,8 +341,9 @@ impl<'a> Series<'a> {
     ghost use Rattle.ics_series.specs.Holding.{rule_looked, series_holds};
     ghost use Rattle.ics_series.specs.Inner.Marks.{IsMarkOf};
 
-    /// Where the search of its rule began.
+    /// Where the search of its rule begins, of which nothing was read yet.
     pub(crate) fn mark(&self) -> Option<Mark>
+        requires { MatchOption self.now.rule_starts (Unit {0}) (λ s. IsBegun s.rule s.from s.cursor) }
         ensures { IsMarkOf self.now.event.now result }
     {
         match &self.rule_starts {
@@ -357,6 +388,7 @@ impl<'a> Feed<'a> for Series<'a> {
             if let Some(occurrence) = self.wanted(start) {
                 return Ok(Some(occurrence));
             }
+            self.skip_removed();
         }
         Ok(None)
     }

@@ -1,11 +1,12 @@
 //! The starts of an event by which it can meet a window.
 ghost use Rattle.std.specs.Prelude.{◌≡◌, ◌<ℤ◌, ◌≤ℤ◌, ◌+ℤ◌, ◌-ℤ◌, pos, None, All, IfOk};
-ghost use Rattle.std.specs.Int.{int_max};
+ghost use Rattle.std.specs.Int.{int_max, int_min};
+ghost use Rattle.jiff_core.specs.Calendar.{IsWithin};
 ghost use Rattle.ics_fields.specs.Days.{IsDayNumber};
 ghost use Rattle.ics_fields.specs.Locals.{midnight, local_seconds, whole_days, year_seconds};
 ghost use Rattle.ics_series.specs.Found.{earliest, first_met, firsts_after, is_span_met, start_at, IsStartIn};
 ghost use Rattle.ics_zone.specs.Observances.{is_until};
-ghost use Rattle.ics_series.specs.Leeway.{late_by, seconds_back, seconds_off};
+ghost use Rattle.ics_series.specs.Leeway.{seconds_late, seconds_off};
 ghost use Rattle.ics_series.specs.RuleStarts.{ends_at};
 ghost use Rattle.ics_series.specs.Starts.{local_of, time_at};
 ghost use Rattle.ics_series.specs.FileZones.{clocks_in, IsOwnEvent, IsTimeOf};
@@ -96,21 +97,9 @@ pub(crate) fn is_until(until: Option<Moment>, moment: Moment) -> bool
     }
 }
 
-// How many seconds a local of this kind can be away from its instant.
-fn seconds_off(start: Stamp) -> i64
-    ensures value { result ≡ seconds_off start }
-    ensures least { pos 0 ≤ℤ result }
-    ensures most { result ≤ℤ pos 93_600 }
-{
-    match start {
-        Stamp::Utc(_) => 0,
-        Stamp::Date(_) | Stamp::Floating(_) | Stamp::Zoned(_) => 93_600,
-    }
-}
-
 // How many seconds later an occurrence of an event can end than the seconds of its length say.
 fn seconds_late(event: &Event) -> i64
-    ensures value { result ≡ late_by event.now.rdates event.now.start.stamp event.now.length }
+    ensures value { result ≡ seconds_late event.now }
     ensures least { pos 0 ≤ℤ result }
     ensures most { result ≤ℤ whole_days 4 }
 {
@@ -127,20 +116,22 @@ fn seconds_late(event: &Event) -> i64
     }
 }
 
-// How many seconds before the earliest instant that counts the locals of an event's rule have to be read.
-pub(crate) fn seconds_back(event: &Event) -> i64
-    ensures value { result ≡ seconds_back event.now }
-    ensures least { pos 0 ≤ℤ result }
+// How many seconds before the earliest instant that counts the locals of an event's rule have to be read, on a clock that is at least so many
+// seconds ahead of UTC.
+pub(crate) fn seconds_back(event: &Event, least: i64) -> i64
+    requires { IsWithin 93_599 least }
+    ensures value { result ≡ seconds_late event.now -ℤ least }
+    ensures least { (pos 0 -ℤ whole_days 2) ≤ℤ result }
     ensures most { result ≤ℤ whole_days 6 }
 {
-    seconds_off(event.start.stamp) + seconds_late(event)
+    seconds_late(event) - least
 }
 
 // The local from which on a rule with this first local is read: that local or, if it is later, the one that is so many seconds before
 // the earliest instant that counts, or the midnight of its day. So a rule that began long ago is not read from its beginning.
 pub(crate) fn first_nearby(first: Local, back: i64, at_midnight: bool, earliest: Moment) -> Local
     requires first { IsDayNumber first.day }
-    requires least { pos 0 ≤ℤ back }
+    requires least { (pos 0 -ℤ whole_days 2) ≤ℤ back }
     requires most { back ≤ℤ whole_days 6 }
     requires late { (occurrence_first -ℤ lasts_most) ≤ℤ earliest }
     requires early { earliest ≤ℤ (window_last +ℤ whole_days 14) }
@@ -173,15 +164,22 @@ fn last_given(window: &Window, until: Option<Moment>, first: Local) -> Moment
     }
 }
 
-// The day after the last local that can have that instant. No local from that day on has an instant at which the rule can give a start.
-pub(crate) fn end_nearby(window: &Window, until: Option<Moment>, start: Stamp) -> i32
-    requires { IsDayNumber (local_of start).day }
+// The day after the last local that can have that instant, on a clock that is at most so many seconds ahead of UTC. No local from that day on has an
+// instant at which the rule can give a start.
+pub(crate) fn end_nearby(window: &Window, until: Option<Moment>, start: Stamp, most: i64) -> i32
+    requires day { IsDayNumber (local_of start).day }
+    requires short { IsWithin 93_599 most }
+    requires most { most ≤ℤ seconds_off start }
     ensures day { IsDayNumber result }
-    ensures after { (ends_at window.now until (local_seconds (local_of start)) +ℤ seconds_off start) ≤ℤ midnight result }
+    ensures after { (ends_at window.now until (local_seconds (local_of start)) +ℤ most) ≤ℤ midnight result }
+    ensures first { int_min (local_seconds (local_of start)) (ends_at window.now until (local_seconds (local_of start)) -ℤ pos 1) <ℤ midnight result }
     ensures soon { midnight result <ℤ (ends_at window.now until (local_seconds (local_of start)) +ℤ (seconds_off start +ℤ whole_days 1)) }
 {
-    let last = last_given(window, until, local_of(start));
-    Local::of_seconds(last + seconds_off(start)).day + 1
+    let first = local_of(start);
+    let last = last_given(window, until, first);
+    // DTSTART counts even if it is after UNTIL.
+    let local = (last + most).max(last.min(first.seconds()));
+    Local::of_seconds(local).day + 1
 }
 
 // The first of each run of starts at one instant.

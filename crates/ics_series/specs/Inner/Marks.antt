@@ -49,7 +49,7 @@ HasNoMark marks = AllByRecursion (λ mark. is_none mark ≡ true) marks
 abbrev pub IsPut : List (Option Mark) → ℕ → Option Mark → List (Option Mark) → Type 0
 IsPut old place mark new = (k : ℕ) (m : Option Mark) → slice_get new k ≡ Some m → (slice_get old k ≡ Some m) ⊎ ((k ≡ place) × (m ≡ mark))
 
-pub begun-prop : (rule : Recurrence) (from : Local) (cursor : Cursor) → IsProp (IsBegun rule from cursor)
+begun-prop : (rule : Recurrence) (from : Local) (cursor : Cursor) → IsProp (IsBegun rule from cursor)
 begun-prop rule from cursor = hlevel (props, cursor-prop, looked-prop)
 
 mark-prop : (event : Event) (mark : Option Mark) → IsProp (IsMarkOf event mark)

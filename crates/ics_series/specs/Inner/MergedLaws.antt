@@ -8,7 +8,7 @@ use Rattle.ics_series.specs.Rising.{IsBefore, Rises}
 use Rattle.ics_series.specs.Merged.{by_order, put, union, merged}
 
 module _ {A : Type 0} (R : A → A → Ordering) (test : A → Bool) where
-  before-filter : (x : A) (ys : List A) → IsBefore R x ys → IsBefore R x (filter test ys)
+  pub before-filter : (x : A) (ys : List A) → IsBefore R x ys → IsBefore R x (filter test ys)
   before-filter x [] h = tt
   before-filter x (y ∷ ys) h = by (test y) (before-filter x ys h.1)
     where

@@ -12,7 +12,8 @@ use Rattle.ics_event.specs.declared.event.Event.{Event}
 use Rattle.ics_fields.specs.declared.local.Local.{Local}
 use Rattle.ics_series.specs.declared.start.Start.{Start}
 use Rattle.ics_series.specs.declared.window.Window.{Window}
-use Rattle.ics_series.specs.Clocks.{Clocks}
+use Rattle.ics_series.specs.Clocks.{Clock, Clocks, IsBounded}
+use Rattle.ics_zone.specs.declared.bounds.Bounds.{Bounds}
 use Rattle.ics_series.specs.RuleStarts.{AreHeld, HasLookedTo, IsHeld}
 
 Start-set : (a b : Start) → IsProp (a ≡ b)
@@ -44,3 +45,6 @@ cursor-in-prop q start o cursor = hlevel (props, counted-prop)
 pub cursor-prop : (rule : Recurrence) (cursor : Cursor) → IsProp (IsCursorOf rule cursor)
 unfolding IsCursorOf
 cursor-prop rule cursor = cursor-in-prop (effective rule) (number rule.start) rule.parts.count cursor
+
+pub bounded-prop : (clock : Clock) (b : Bounds) → IsProp (IsBounded clock b)
+bounded-prop clock b = hlevel props

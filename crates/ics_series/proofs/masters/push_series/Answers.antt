@@ -51,6 +51,10 @@ returns-in_err-new-clause-spans c = moved-on (goal.at.returns-in_err-new-clause-
 pub returns-in_err-push-clause-spans : goal.returns-in_err-push-clause-spans
 returns-in_err-push-clause-spans c = moved-on (goal.at.returns-in_err-push-clause-spans c).After-move_on
 
+-- nothing of a series was read where its mark is taken
+pub mark-begun-requires : goal.mark-begun-requires
+mark-begun-requires c = MatchOption-at_some _ _ c.in-Some.series c.in-Some.is c.in_ok-series.ensures.begun
+
 pub loop-place-init : goal.loop-place-init
 loop-place-init c = record {
   lists = lists-none (map part_coming c.args.parts.now.items);

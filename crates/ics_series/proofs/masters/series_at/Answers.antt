@@ -24,6 +24,7 @@ event-event-requires c = stands c.args.place any_version c.requires.chosen
 pub returns-then-is_single : goal.returns-then-is_single
 returns-then-is_single c = record {
   since = λ none. tt;
+  begun = tt;
   sources = λ version there. tt;
   series = λ version there.
       not-single (get_or_from_slice_get c.args.chosen.now c.args.place version any_version there) c.event-event.ensures.event
@@ -80,4 +81,5 @@ returns c =
             }),
         c.in_ok-series.ensures.sources,
       );
+      begun = c.in_ok-series.ensures.begun;
     }

@@ -1,33 +1,31 @@
-use Rattle.std.proofs.Common.{◌≡◌, pos, ◌-ℤ◌, rules, w32, w64, to_z, of_z, inl, inr, ◌⊎◌, ℤ, sym, ◌∙◌, ap, arith, SFits}
+use Rattle.std.proofs.Common.{◌≡◌, pos, ◌-ℤ◌, rules, w32, w64, to_z, of_z, ℤ, refl, sym, ◌∙◌, ap, arith, SFits}
 use Rattle.std.proofs.lemmas.Int.{ints}
-use Rattle.ics_fields.specs.Locals.{local_seconds, midnight, whole_days}
+use Rattle.ics_fields.specs.Locals.{local_seconds, midnight}
 use Rattle.ics_fields.specs.declared.local.Local.{Local}
 use Rattle.ics_values.specs.declared.stamp.Stamp.{Stamp}
-use Rattle.ics_values.specs.declared.stamp.Stamp.TheVariants.{Floating, Zoned}
+use Rattle.ics_values.specs.declared.stamp.Stamp.TheVariants.{Date}
 use Rattle.ics_series.specs.RuleStarts.{settled_by}
 use Rattle.ics_series.proofs.rule_starts.settled_by.Goals as goal
 
 pub returns-in-Date : goal.returns-in-Date
 returns-in-Date c =
     let days : SFits w32 c.args.day = search rules in
+    let short = c.requires.most in
     let at = ap (λ (l : Local). local_seconds l) c.at.ensures in
     let from : c.seconds.result ≡ midnight c.args.day = omega (arith, ints, c.seconds.ensures, at) in
-    let back : to_z w64 (of_z w64 (to_z w64 (of_z w64 c.seconds.result) -ℤ pos 172800)) ≡ midnight c.args.day -ℤ whole_days 2 =
-    omega (arith, ints, from) in
-    back ∙ sym (ap (λ (x : Stamp). settled_by x c.args.day c.args.next) c.in-Date.is)
+    let back : to_z w64 (of_z w64 (to_z w64 (of_z w64 (to_z w64 (of_z w64 c.seconds.result) -ℤ to_z w64 (of_z w64 c.args.most))) -ℤ pos 1))
+    ≡ midnight c.args.day -ℤ c.args.most -ℤ pos 1 = omega (arith, ints, from, short) in
+    back ∙ sym (ap (λ (x : Stamp). settled_by x c.args.most c.args.day c.args.next) c.in-Date.is)
 
-pub returns-in-Utc : goal.returns-in-Utc
-returns-in-Utc c =
-    let fits : SFits w64 c.args.next = search rules in
-    let back : to_z w64 (of_z w64 (to_z w64 (of_z w64 c.args.next) -ℤ pos 1)) ≡ c.args.next -ℤ pos 1 = omega (arith, ints, c.requires) in
-    back ∙ sym (ap (λ (x : Stamp). settled_by x c.args.day c.args.next) c.in-Utc.is)
+-- all but dates are read at their own seconds
+by-seconds : (s : Stamp) (most day next : ℤ) → ((d : ℤ) → s ≡ Date d → ⊥) → settled_by s most day next ≡ next -ℤ most -ℤ pos 1
+by-seconds (Date d) most day next h = absurd (h d refl)
+by-seconds _ most day next h = refl
 
-far : (s : Stamp) (day next : ℤ) → ((x : Local) × (s ≡ Floating x)) ⊎ ((x : Local) × (s ≡ Zoned x)) → settled_by s day next ≡ next -ℤ pos 93_600
-far s day next (inl k) = ap (λ x. settled_by x day next) k.1
-far s day next (inr k) = ap (λ x. settled_by x day next) k.1
-
-pub returns-in-Floating : goal.returns-in-Floating
-returns-in-Floating c =
-    let fits : SFits w64 c.args.next = search rules in
-    let back : to_z w64 (of_z w64 (to_z w64 (of_z w64 c.args.next) -ℤ pos 93600)) ≡ c.args.next -ℤ pos 93_600 = omega (arith, ints, c.requires) in
-    back ∙ sym (far c.args.start c.args.day c.args.next c.in-Floating.is)
+pub returns-in_default : goal.returns-in_default
+returns-in_default c =
+    let short = c.requires.most in
+    let years = c.requires.next in
+    let back : to_z w64 (of_z w64 (to_z w64 (of_z w64 (to_z w64 (of_z w64 c.args.next) -ℤ to_z w64 (of_z w64 c.args.most))) -ℤ pos 1))
+    ≡ c.args.next -ℤ c.args.most -ℤ pos 1 = omega (arith, ints, years, short) in
+    back ∙ sym (by-seconds c.args.start c.args.most c.args.day c.args.next c.in_default.not-Date)

@@ -1,10 +1,11 @@
-use Rattle.std.proofs.Common.{◌≡◌, ◌<ℤ◌, ◌+ℤ◌, ◌∙◌, refl, sym, ap, subst, arith, map, to_z, of_z, w32, ℤ, Option}
+use Rattle.std.proofs.Common.{◌≡◌, ◌<ℤ◌, ◌+ℤ◌, ◌-ℤ◌, ◌∙◌, pos, refl, sym, ap, subst, arith, map, to_z, of_z, w32, ℤ, Option}
 use Rattle.std.specs.Int.{int_min}
 use Rattle.std.proofs.lemmas.Int.{int_min_is, ints}
 use Rattle.ics_fields.specs.declared.local.Local.{Local}
 use Rattle.ics_rule.specs.Cursors.{place_of}
 use Rattle.ics_event.specs.declared.event.Event.{Event}
 use Rattle.ics_fields.specs.Locals.{local_seconds, midnight, number, whole_days}
+use Rattle.ics_series.specs.Clocks.{clock_of, IsBounded}
 use Rattle.ics_series.specs.Found.{moment_cmp}
 use Rattle.ics_series.specs.Leeway.{seconds_off}
 use Rattle.ics_series.specs.Listing.{IsIn}
@@ -16,10 +17,10 @@ use Rattle.ics_series.specs.Waiting.{start_of, starts_in}
 use Rattle.ics_series.specs.Starts.{local_of}
 use Rattle.ics_series.proofs.StartSourceLemmas.{calendar-day, own-day, rule-first}
 use Rattle.ics_series.proofs.SettledLemmas.{off-range}
-use Rattle.ics_series.specs.FileZones.{clocks_in}
+use Rattle.ics_series.specs.FileZones.{clocks_in, IsTimeOf}
 use Rattle.ics_series.specs.Inner.Quiet.{AreBeyond}
 use Rattle.ics_series.proofs.QuietLemmas.{beyond-begun}
-use Rattle.ics_series.proofs.RuleStepLemmas.{day-back, ends-most, signed-back}
+use Rattle.ics_series.proofs.RuleStepLemmas.{day-back, ends-most, most-back, signed-back}
 use Rattle.ics_series.proofs.rule_starts.RuleStarts.new.Goals as goal
 
 -- where the rule ends is told by the event as it is seen
@@ -27,15 +28,35 @@ ends-same : (w : Window) {o p : Option ℤ} {u v : Event} → o ≡ p → u ≡ 
     ends_at w o (local_seconds (local_of u.start.stamp)) ≡ ends_at w p (local_seconds (local_of v.start.stamp))
 ends-same w e f = λ i. ends_at w (e i) (local_seconds (local_of (f i).start.stamp))
 
+first-same : (w : Window) {o p : Option ℤ} {u v : Event} → o ≡ p → u ≡ v →
+    int_min (local_seconds (local_of u.start.stamp)) (ends_at w o (local_seconds (local_of u.start.stamp)) -ℤ pos 1)
+    ≡ int_min (local_seconds (local_of v.start.stamp)) (ends_at w p (local_seconds (local_of v.start.stamp)) -ℤ pos 1)
+first-same w e f = λ i. int_min (local_seconds (local_of (f i).start.stamp)) (ends_at w (e i) (local_seconds (local_of (f i).start.stamp)) -ℤ pos 1)
+
 end-of-window : (w : Window) (o : Option ℤ) (end : ℤ) {u v : Event} → u ≡ v →
     midnight end <ℤ (ends_at w o (local_seconds (local_of u.start.stamp)) +ℤ (seconds_off u.start.stamp +ℤ whole_days 1))
     → midnight end <ℤ (w.to +ℤ whole_days 3)
 end-of-window w o end {u = u} f l = omega (arith, ints, l, ends-most w o (local_seconds (local_of u.start.stamp)), off-range u.start.stamp)
 
-pub end_nearby-end-requires : goal.end_nearby-end-requires
-end_nearby-end-requires c =
+pub bounds-bounds-requires : goal.bounds-bounds-requires
+bounds-bounds-requires c = subst (λ (v : Event). IsTimeOf c.args.zones.zones.now v.start) (sym c.event.view_is) c.requires.event.start
+
+pub end_nearby-end-requires-clause-day : goal.end_nearby-end-requires-clause-day
+end_nearby-end-requires-clause-day c =
     rw (ap (λ (v : Event). local_of v.start.stamp) c.event.view_is)
     (calendar-day (local_of c.args.event.now.start.stamp).day (own-day c.args.event.now.start c.requires.event.start.is_time))
+
+pub end_nearby-end-requires-clause-short : goal.end_nearby-end-requires-clause-short
+end_nearby-end-requires-clause-short c =
+    let short = c.bounds-bounds.ensures.bounded.most_short in
+    (omega (arith, ints, short), omega (arith, ints, short))
+
+pub end_nearby-end-requires-clause-most : goal.end_nearby-end-requires-clause-most
+end_nearby-end-requires-clause-most c =
+    let b = c.bounds-bounds in
+    let back = most-back b.result.most b.ensures.bounded.most_short in
+    let off = ap (λ (v : Event). seconds_off v.start.stamp) c.event.view_is in
+    omega (arith, ints, back, b.ensures.most, off)
 
 pub begun-begun-requires-clause-early : goal.begun-begun-requires-clause-early
 begun-begun-requires-clause-early c =
@@ -51,10 +72,12 @@ invariant_of-result c =
     let ends = ends-same w c.until_moment.ensures c.event.view_is in
     let off = ap (λ (v : Event). seconds_off v.start.stamp) c.event.view_is in
     let most = end-of-window w c.until_moment.result c.end_nearby-end.result c.event.view_is e.soon in
+    let firsts = first-same w c.until_moment.ensures c.event.view_is in
     let min = c.min-day.ensures.value in
     let end = day-back c.end_nearby-end.result e.day in
     let from = day-back c.args.from.day c.requires.from in
     let day = signed-back c.min-day.result c.min-day.result c.min-day.type_inv refl in
+    let back = most-back c.bounds-bounds.result.most c.bounds-bounds.ensures.bounded.most_short in
     let asked = day ∙ (min ∙ ap (λ f. int_min f (to_z w32 (of_z w32 c.end_nearby-end.result))) from) in
     let at = ap (λ (l : Local). local_seconds l) c.at.ensures in
     let next : c.seconds-next.result ≡ midnight (to_z w32 (of_z w32 c.min-day.result)) = omega (arith, ints, c.seconds-next.ensures, at) in
@@ -62,7 +85,6 @@ invariant_of-result c =
       of = c.requires.rule;
       rises = subst (Rises moment_cmp) (sym (ap (map (start_of c.args.event.now.start)) c.new.ensures)) tt;
       are = λ s m. absurd (subst (IsIn s) (ap (map (start_of c.args.event.now.start)) c.new.ensures) m);
-      begins = c.begun-begun.ensures.begun;
       past_end = subst (λ place. AreBeyond (clocks_in c.args.zones) c.args.event.now c.args.rule w (number c.args.from) place _)
           (sym c.begun-begun.ensures.begun.place) (beyond-begun (clocks_in c.args.zones) c.args.event.now c.args.rule w (number c.args.from) _);
       own = c.begun-begun.ensures.begun.own;
@@ -91,9 +113,15 @@ invariant_of-result c =
       asked_soon = omega (arith, ints, day);
       asked_end = omega (arith, ints, day, end, from, min, int_min_is);
       early = omega (arith, ints, end, w.not_late, most, e.day.0);
-      after = omega (arith, ints, end, e.after, ends, off);
+      bounded = subst (λ (v : Event). IsBounded (clock_of (clocks_in c.args.zones) v.start) c.bounds-bounds.result) c.event.view_is
+          c.bounds-bounds.ensures.bounded;
+      after = omega (arith, ints, end, e.after, ends, back);
+      first_before = omega (arith, ints, end, firsts, e.first);
       soon = omega (arith, ints, end, e.soon, ends, off);
     }
+
+pub returns-clause-begun : goal.returns-clause-begun
+returns-clause-begun c = c.begun-begun.ensures.begun
 
 pub returns-clause-left : goal.returns-clause-left
 returns-clause-left c =

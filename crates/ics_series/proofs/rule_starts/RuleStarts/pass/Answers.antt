@@ -20,7 +20,6 @@ invariant_of-self c =
       of = s.of;
       rises = subst (Rises moment_cmp) (sym e) (rises-drop (held_in s) s.rises);
       are = λ t m. s.are t (in-drop t (held_in s) (subst (IsIn t) e m));
-      begins = s.begins;
       past_end = s.past_end;
       own = s.own;
       looked = s.looked;
@@ -34,7 +33,9 @@ invariant_of-self c =
       asked_soon = s.asked_soon;
       asked_end = s.asked_end;
       early = s.early;
+      bounded = s.bounded;
       after = s.after;
+      first_before = s.first_before;
       soon = s.soon;
     }
 

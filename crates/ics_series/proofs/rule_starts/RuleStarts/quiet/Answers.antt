@@ -3,10 +3,19 @@ use Rattle.std.proofs.lemmas.Int.{int_min_is, ints}
 use Rattle.ics_fields.specs.Locals.{local_seconds}
 use Rattle.ics_series.specs.RuleStarts.{settled_by}
 use Rattle.ics_series.proofs.QuietLemmas.{quiet-by, quiet-ended}
+use Rattle.ics_series.proofs.RuleStepLemmas.{most-back}
 use Rattle.ics_series.proofs.rule_starts.RuleStarts.quiet.Goals as goal
 
-pub settled_by-requires : goal.settled_by-requires
-settled_by-requires c = omega (arith, ints, c.seconds.ensures, c.quiet-next.ensures.day)
+pub settled_by-settled-requires-clause-most : goal.settled_by-settled-requires-clause-most
+settled_by-settled-requires-clause-most c =
+    let short = c.args.self.now.bounded.most_short in
+    (omega (arith, ints, short), omega (arith, ints, short))
+
+pub settled_by-settled-requires-clause-next : goal.settled_by-settled-requires-clause-next
+settled_by-settled-requires-clause-next c =
+    let day = c.quiet-next.ensures.day in
+    let second = c.quiet-next.result.second_in in
+    (omega (arith, ints, c.seconds.ensures, day.0, day.1, second), omega (arith, ints, c.seconds.ensures, day.0, day.1, second))
 
 pub returns-in-Some : goal.returns-in-Some
 returns-in-Some c =
@@ -21,10 +30,12 @@ returns-in_default c =
     let days : SFits w32 c.quiet-next.result.day = search rules in
     let fits : SFits w64 c.seconds.result = search rules in
     let least : SFits w64 c.args.self.now.beyond = search rules in
-    let settles : SFits w64 c.settled_by.result = search rules in
+    let settles : SFits w64 c.settled_by-settled.result = search rules in
+    let most = most-back s.bounds.most s.bounded.most_short in
     let day : to_z w32 (of_z w32 c.quiet-next.result.day) ≡ c.quiet-next.result.day = omega (arith, ints) in
     let seconds : to_z w64 (of_z w64 c.seconds.result) ≡ local_seconds c.quiet-next.result = omega (arith, ints, c.seconds.ensures) in
-    let settled : c.settled_by.result ≡ settled_by c.args.self.now.event.now.start.stamp c.quiet-next.result.day (local_seconds c.quiet-next.result) =
-    c.settled_by.ensures ∙ (λ i. settled_by (c.event.view_is i).start.stamp (day i) (seconds i)) in
+    let settled : c.settled_by-settled.result
+    ≡ settled_by c.args.self.now.event.now.start.stamp c.args.self.now.bounds.most c.quiet-next.result.day (local_seconds c.quiet-next.result) =
+    c.settled_by-settled.ensures ∙ (λ i. settled_by (c.event.view_is i).start.stamp (most i) (day i) (seconds i)) in
     quiet-by s next c.quiet-next.ensures.none c.quiet-next.ensures.day (omega (arith, ints, int_min_is, c.min.ensures))
     (omega (arith, ints, int_min_is, c.min.ensures, settled))

@@ -18,7 +18,6 @@ invariant_of-self-in-Break-1 c =
       of = s.of;
       rises = subst (Rises moment_cmp) (sym same) s.rises;
       are = subst (AreHeld (clocks_in s.zones) s.event.now s.rule s.window s.asked) (sym same) s.are;
-      begins = s.begins;
       past_end = s.past_end;
       own = s.own;
       looked = s.looked;
@@ -32,7 +31,9 @@ invariant_of-self-in-Break-1 c =
       asked_soon = s.asked_soon;
       asked_end = s.asked_end;
       early = s.early;
+      bounded = s.bounded;
       after = s.after;
+      first_before = s.first_before;
       soon = s.soon;
     }
 
@@ -55,7 +56,6 @@ invariant_of-self c =
       of = s.of;
       rises = r.rises;
       are = r.are;
-      begins = s.begins;
       past_end = beyond-none s c.in-None.ensures.next;
       own = c.in-None.ensures.own;
       looked = λ before m. c.in-None.ensures.looked _ before (omega (arith, r.before, m)) (s.looked before (omega (arith, r.before, m)));
@@ -69,7 +69,9 @@ invariant_of-self c =
       asked_soon = r.soon;
       asked_end = r.end;
       early = s.early;
+      bounded = s.bounded;
       after = s.after;
+      first_before = s.first_before;
       soon = s.soon;
     }
 
@@ -90,7 +92,6 @@ invariant_of-self-in-Some c =
       of = s.of;
       rises = r.rises;
       are = r.are;
-      begins = s.begins;
       past_end = beyond-one s c.in-Some.local c.in-Some.ensures.next c.in-Some.ensures.day (omega (arith, ints, c.lesser_past-self.ensures.first))
           (λ past. let late = c.lesser_past-self.ensures.second (omega (arith, ints, past, moment)) in omega (arith, ints, late, moment));
       own = c.in-Some.ensures.own;
@@ -105,7 +106,9 @@ invariant_of-self-in-Some c =
       asked_soon = r.soon;
       asked_end = r.end;
       early = s.early;
+      bounded = s.bounded;
       after = s.after;
+      first_before = s.first_before;
       soon = s.soon;
     }
 

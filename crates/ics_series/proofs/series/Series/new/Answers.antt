@@ -1,12 +1,11 @@
-use Rattle.std.proofs.Common.{◌≡◌, ℕ, zero, suc, ◌+◌, ◌-◌, ◌<◌, ◌≤◌, ℤ, ◌-ℤ◌, List, true, Option, Some, None, option_map, ◌⊎◌, inl, inr, ⊎_elim, refl, sym, ◌∙◌}
+use Rattle.std.proofs.Common.{◌≡◌, ℕ, zero, suc, ◌+◌, ◌-◌, ◌<◌, ◌≤◌, ℤ, List, true, Option, Some, None, option_map, ◌⊎◌, inl, inr, ⊎_elim, refl, sym, ◌∙◌}
 use Rattle.std.proofs.Common.{ap, subst, arith, ◌≤ℤ◌, int_lt, slice_get, MatchOption, w64, to_z, of_z, get_or, SFits}
-use Rattle.std.specs.Int.{int_max}
 use Rattle.std.proofs.lemmas.Int.{int_max_is, int_min_is, ints}
-use Rattle.std.proofs.lemmas.Bool.{and_from}
+use Rattle.std.proofs.lemmas.Bool.{and_from, cases_lt}
 use Rattle.ics_fields.specs.RuleParts.{RuleParts}
 use Rattle.ics_fields.specs.declared.local.Local.{Local}
 use Rattle.ics_rule.specs.PeriodNumbers.{rules_end}
-use Rattle.ics_fields.specs.Locals.{number, local_seconds}
+use Rattle.ics_fields.specs.Locals.{number}
 use Rattle.ics_rule.specs.Kept.{is_kept}
 use Rattle.ics_rule.specs.Recurrence.{Recurrence}
 use Rattle.ics_event.specs.Event.{IsEvent, IsTime}
@@ -22,7 +21,6 @@ use Rattle.ics_series.specs.declared.zones.FileZones.{FileZones}
 use Rattle.ics_series.specs.Clocks.{Clocks, instant}
 use Rattle.ics_series.specs.Entry.{Entry, entry_cmp}
 use Rattle.ics_series.specs.Found.{listed_from, moment_cmp, start_at, start_by, AreFirsts, AreStartsSince, HasStart, IsSought, IsStart, IsStartIn}
-use Rattle.ics_series.specs.Leeway.{seconds_back}
 use Rattle.ics_series.specs.Listing.{IsIn, IsListing}
 use Rattle.ics_series.specs.Meeting.{entry_from}
 use Rattle.ics_series.specs.Meets.{Meets}
@@ -31,11 +29,12 @@ use Rattle.ics_series.specs.Inner.MergedLaws.{rises-union}
 use Rattle.ics_series.specs.Rising.{Rises}
 use Rattle.ics_series.specs.RuleFeed.{starts_left}
 use Rattle.ics_series.specs.RuleStarts.{found, found_in, gives, lets_until, local_numbered, moment_numbered}
-use Rattle.ics_series.specs.SeriesStarts.{first_asked, listed_apart, rule_left, HasRuled, IsRuleFrom, IsSeriesMet, given_of, left}
+use Rattle.ics_series.specs.SeriesStarts.{listed_apart, rule_left, HasRuled, IsRuleFrom, IsSeriesMet, given_of, left}
 use Rattle.ics_series.specs.SeriesStarts.{listed_left}
 use Rattle.ics_series.specs.Starts.{local_of, recurrence_by, time_at, time_of, GivesStart, IsRuleStart}
 use Rattle.ics_series.specs.FileZones.{clocks_in, IsOwnEvent}
 use Rattle.ics_series.proofs.FirstLemmas.{moment_total}
+use Rattle.ics_series.proofs.StartSourceLemmas.{calendar-day, own-day}
 use Rattle.ics_series.proofs.StartSourceLemmas.{gives-below, gives-kept, gives-value, kept-calendar, kept-ruled, number-numbered, number-seconds}
 use Rattle.ics_series.proofs.StartSourceLemmas.{numbered-number, ruled-kept, written-at}
 use Rattle.ics_series.proofs.InstantLemmas.{instant-near}
@@ -43,7 +42,7 @@ use Rattle.ics_series.proofs.SeriesLemmas.{has-union, put-has, union-has, in-mom
 use Rattle.ics_series.proofs.SoughtLemmas.{listed-in}
 use Rattle.ics_series.proofs.VersionLemmas.{same-entry}
 use Rattle.ics_series.proofs.RuleDayLemmas.{found-is, given-parts, in-rules, put-both, seconds-numbered}
-use Rattle.ics_series.proofs.SoughtLemmas.{listed-there, none-else, sought-back, sought-early}
+use Rattle.ics_series.proofs.SoughtLemmas.{late-event, listed-there, none-else, sought-early, sought-from}
 use Rattle.ics_series.proofs.RawLemmas.{kept-first}
 use Rattle.ics_series.proofs.UnionLemmas.{itself-put, union-in}
 use Rattle.ics_series.proofs.Cases.{here-or-later}
@@ -145,10 +144,19 @@ module _ (zones : FileZones) (w : Window) (event : Event) where
           let near = instant-near zones (time_at event.start local) in
           let at = written-at event.start.stamp local in
           let first = kept-first clocks event sound.start local own in
-          let back = sought-back zones w event local s in
-          let asked : int_max (local_seconds (local_of event.start.stamp)) (first_asked clocks w event since by_rdates -ℤ seconds_back event)
-          ≤ℤ local_seconds local = omega (arith, ints, int_max_is, int_min_is, back.0, back.1, late, first) in
-          let from : number r.from ≤ number local = omega (arith, ints, r.low, asked, number-seconds r.from r.day, number-seconds local day) in
+          let back = sought-from zones w event (moment local) s in
+          let late-most = late-event zones w event in
+          let begun = local_of event.start.stamp in
+          let on : number (local_of event.start.stamp) ≤ number local =
+          omega (arith, ints, first, number-seconds begun (calendar-day begun.day (own-day event.start sound.start)), number-seconds local day) in
+          let same : moment_numbered clocks event (number local) ≡ moment local = ap moment (numbered-number local day) in
+          let from : number r.from ≤ number local = elim (cases_lt (number local) (number r.from)) [
+            | inl before ↦ absurd (
+                let low = r.low (number local) on before in
+                omega (arith, ints, int_max_is, int_min_is, low, same, back, late-most, late)
+                )
+            | inr past ↦ past
+          ] in
           let below : number local < rules_end = omega (arith, ints, early, near.0, at.1, number-seconds local day, w.not_late) in
           let parts = ruled-kept clocks event r.rule r.has local own in
           let there : gives clocks event r.rule w (number local) ≡ true =
@@ -245,6 +253,7 @@ invariant_of-result c =
       taken_out = c.in_ok-exclusions.ensures;
       known = λ s m. start-in c.args.zones w event c.requires.own s
           (are-starts c.args.zones w event sound c.args.since (listed_left c.in_ok-new.field-0) firsts c.starts_by_rule-rule_starts.result ruled s m);
+      listed_known = λ s m. start-in c.args.zones w event c.requires.own s (start-apart c.args.zones w event event.rule s (firsts.are s m));
       ruled = rw since
           (has-ruled c.args.zones w event sound c.args.since c.starts_by_rule-rule_starts.result
           (given_of clocks w event c.args.since (left c.starts_by_rule-rule_starts.result c.in_ok-new.field-0)) ruled listing);
@@ -268,4 +277,5 @@ returns c =
       listing = rw since
           (series-listing clocks w event c.args.since (left c.starts_by_rule-rule_starts.result c.in_ok-new.field-0) starts);
       sources = ap (source_of clocks event w) since;
+      begun = c.starts_by_rule-rule_starts.ensures.begun;
     }

@@ -17,6 +17,7 @@ invariant_of-self c =
       own = s.own;
       taken_out = s.taken_out;
       known = s.known;
+      listed_known = s.listed_known;
       ruled = s.ruled;
       own_rule = s.own_rule;
       rising = s.rising;

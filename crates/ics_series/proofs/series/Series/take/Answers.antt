@@ -1,5 +1,4 @@
-use Rattle.std.proofs.lemmas.Grind.{common_steps}
-use Rattle.std.proofs.Common.{◌≡◌, [], ◌∷◌, Option, sym, ◌∙◌, ap, refl, subst, arith}
+use Rattle.std.proofs.Common.{◌≡◌, [], ◌∷◌, Option, sym, ◌∙◌, ap, refl, subst}
 use Rattle.ics_series.specs.declared.rule_starts.RuleStarts.{RuleStarts}
 use Rattle.ics_series.specs.declared.series.Series.{Series}
 use Rattle.ics_series.specs.Entry.{Entry}
@@ -10,7 +9,9 @@ use Rattle.ics_series.specs.SeriesFeed.{series_left, series_of}
 use Rattle.ics_series.specs.SeriesStarts.{first_of, left, listed_left, rule_asked, rule_left, HasSameRule, IsAskedNear}
 use Rattle.ics_series.specs.FileZones.{clocks_in}
 use Rattle.ics_series.specs.Inner.MergedLaws.{rises-union}
+use Rattle.ics_series.proofs.BeginsLemmas.{in-cut}
 use Rattle.ics_series.proofs.FirstLemmas.{moment_total}
+use Rattle.ics_series.proofs.SameLemmas.{same-rule}
 use Rattle.ics_series.proofs.SeriesLemmas.{asked-near, both-passed, given-own, own-rule-same, read, rest-of, rises-listed, rises-rest, rises-rule, ruled-rest}
 use Rattle.ics_series.proofs.series.Series.take.Goals as goal
 
@@ -20,6 +21,7 @@ invariant_of-self c =
       own = s.own;
       taken_out = s.taken_out;
       known = s.known;
+      listed_known = s.listed_known;
       ruled = s.ruled;
       own_rule = s.own_rule;
       rising = s.rising;
@@ -36,6 +38,7 @@ invariant_of-self-in-Some c =
       own = s.own;
       taken_out = s.taken_out;
       known = rest-of taken s.known;
+      listed_known = λ t m. s.listed_known t (in-cut moment_cmp moment_total c.in-Some.start t (listed_left s.listed) (subst (IsIn t) c.pass.ensures m));
       ruled = ruled-rest (clocks_in s.zones) s.window s.event.now s.since c.peek_rule.new.rule c.pass_rule.new.rule
           c.pass_rule.ensures.rule c.pass_rule.ensures.left (record {
             is = taken;
@@ -54,6 +57,7 @@ invariant_of-self-in_default c =
       own = s.own;
       taken_out = s.taken_out;
       known = s.known;
+      listed_known = s.listed_known;
       ruled = s.ruled;
       own_rule = s.own_rule;
       rising = s.rising;
@@ -96,7 +100,13 @@ pub returns-in_default-clause-near : goal.returns-in_default-clause-near
 returns-in_default-clause-near c = near c.args.self.now c.peek_rule.new.rule c.peek_rule.ensures.rule c.peek_rule.ensures.same
 
 pub returns-in-Some-clause-same : goal.returns-in-Some-clause-same
-returns-in-Some-clause-same c = grind (arith, common_steps)
+returns-in-Some-clause-same c = record {
+  zones = refl;
+  event = refl;
+  window = refl;
+  since = refl;
+  rule = same-rule c.args.self.now.rule_starts c.peek_rule.new.rule c.pass_rule.new.rule c.peek_rule.ensures.rule c.pass_rule.ensures.rule;
+}
 
 pub returns-in_default-clause-same : goal.returns-in_default-clause-same
-returns-in_default-clause-same c = grind (arith, common_steps)
+returns-in_default-clause-same c = record { zones = refl; event = refl; window = refl; since = refl; rule = c.peek_rule.ensures.rule }
