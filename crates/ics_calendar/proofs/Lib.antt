@@ -42,3 +42,4 @@ pub mod AloneParts
 pub mod UnknownInParts
 pub mod FaultlessLines
 pub mod NamesForParts
+pub mod SummedUids

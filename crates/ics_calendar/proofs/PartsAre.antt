@@ -9,7 +9,7 @@ use Rattle.ics_components.specs.declared.fault.Fault.{Fault}
 use Rattle.ics_components.specs.declared.parsed_file.CalendarZone.{CalendarZone}
 use Rattle.ics_components.specs.FirstFault.{first_fault}
 use Rattle.ics_components.specs.EventLines.{all_events, has_no_uid, has_parts, is_none_of, with_uid, with_uids}
-use Rattle.ics_components.specs.Parted.{PartedComponentSeen, PartedFileSeen, component_seen, parted_lines, parted_of}
+use Rattle.ics_components.specs.Parted.{LacksUids, PartedComponentSeen, PartedFileSeen, component_seen, parted_lines, parted_of}
 use Rattle.ics_components.specs.PlacedLines.{Placed, placed}
 use Rattle.ics_components.proofs.PlacedApart.{AreParted, are_parted}
 use Rattle.ics_calendar.specs.DeferredChecks.{KnownZones, with_files}
@@ -97,6 +97,24 @@ pub no-uids : (lines : List Placed) (events : List Placed) →
     list_all (λ event. is_none_of event.uids) (map (component_seen lines) events) ≡ list_all (has_no_uid lines) events
 no-uids lines [] = refl
 no-uids lines (event ∷ events) = ap (λ t. has_no_uid lines event && t) (no-uids lines events)
+
+-- WHERE NO EVENT HAS A UID, as it is gathered and as it is said.
+pub lacks-by : (bytes : List ℕ) (parted : PartedFileSeen) → parted_of None bytes ≡ Some parted →
+    list_all (λ event. is_none_of event.uids) parted.events ≡ true → LacksUids bytes
+lacks-by bytes parted from e =
+    let is = is-parted bytes parted from in
+    let parts = and_parts (not (begins_with_fold bytes)) (has_parts (placed bytes)) is.0 in (
+      not-true (begins_with_fold bytes) parts.0,
+      parts.1,
+      sym (no-uids (placed bytes) (all_events (placed bytes))) ∙ ap (λ (p : PartedFileSeen). list_all (λ event. is_none_of event.uids) p.events) (sym is.1) ∙ e,
+    )
+
+module _ (bytes : List ℕ) (lacks : LacksUids bytes) where
+  pub lacks-gathered : parted_of None bytes ≡ Some (parted_lines (placed bytes))
+  lacks-gathered = rw (lacks.0, lacks.1) refl
+
+  pub lacks-all : list_all (λ event. is_none_of event.uids) (parted_lines (placed bytes)).events ≡ true
+  lacks-all = no-uids (placed bytes) (all_events (placed bytes)) ∙ lacks.2
 
 -- WHAT IS READ, without made UIDs and with them.
 abbrev all_without : PartedFileSeen → Bool

@@ -22,10 +22,10 @@ use Rattle.std.proofs.lemmas.List.Elements.{All-append, All-cons, All-head, All-
 use Rattle.ics_calendar.specs.Inner.Labels.{AreNumbered}
 use Rattle.ics_calendar.specs.Inner.PartsRead.{Labelled, Numbered, calendar_fault, fault_under, is_key, keys_of, least_at, number_of, numbered_with, place_from}
 use Rattle.ics_calendar.specs.Inner.PartsRead.{sound_in, with_event, with_key, zone_fault}
-use Rattle.ics_calendar.specs.Inner.SharedFaults.{number_by}
+use Rattle.ics_calendar.specs.declared.summed_uid.SummedUid.{SummedUid}
+use Rattle.ics_calendar.specs.Inner.SummedUids.{number_by, place_of}
 use Rattle.ics_components.specs.PartFaults.{earlier}
-use Rattle.std.specs.BTreeMap.{BTreeMap, get}
-use Rattle.std.specs.Cmp.Lexicographic.{slice_cmp}
+use Rattle.std.specs.BTreeMap.{BTreeMap}
 use Rattle.std.specs.List.{fold}
 use Rattle.std.specs.Str.{bytes_eq}
 use Rattle.std.proofs.lemmas.List.{length-append, length-set}
@@ -106,10 +106,10 @@ long-more fault faults keys key n e =
     ∙ sym (length-append keys (key ∷ []))
 
 -- WHAT IS KEPT with a key more.
-pub uid-more : (fault : Option Fault) (had : Numbered) (by_uid now : BTreeMap (List ℕ) ℕ) (faults : List (Option Fault)) (uid : List ℕ) →
+pub uid-more : (fault : Option Fault) (had : Numbered) (by_uid now : BTreeMap SummedUid ℕ) (faults : List (Option Fault)) (uid : List ℕ) →
     AreNumbered had by_uid faults →
-    ((other : List ℕ) → get (slice_cmp nat_cmp) now other
-    ≡ option_or (get (slice_cmp nat_cmp) by_uid other) (cond (bytes_eq other uid) (Some (length faults)) None)) →
+    ((other : List ℕ) → place_of now other
+    ≡ option_or (place_of by_uid other) (cond (bytes_eq other uid) (Some (length faults)) None)) →
     AreNumbered (with_key fault had (Some uid)) now (least_at fault (faults ++ None ∷ []) (number_by by_uid (length faults) uid))
     × (number_by by_uid (length faults) uid ≡ (with_key fault had (Some uid)).part)
 uid-more fault had by_uid now faults uid are put =
@@ -124,7 +124,7 @@ uid-more fault had by_uid now faults uid are put =
       number,
     )
 
-pub none-more : (fault : Option Fault) (had : Numbered) (by_uid : BTreeMap (List ℕ) ℕ) (faults : List (Option Fault)) → AreNumbered had by_uid faults →
+pub none-more : (fault : Option Fault) (had : Numbered) (by_uid : BTreeMap SummedUid ℕ) (faults : List (Option Fault)) → AreNumbered had by_uid faults →
     AreNumbered (with_key fault had None) by_uid (least_at fault (faults ++ None ∷ []) (length faults))
     × (length faults ≡ (with_key fault had None).part)
 none-more fault had by_uid faults are =
@@ -147,7 +147,7 @@ some-keys [] e = cc
 some-keys (uid ∷ uids) e = refl
 
 -- what is kept before an event more
-pub begun : (had : Numbered) (by_uid : BTreeMap (List ℕ) ℕ) (faults : List (Option Fault)) → AreNumbered had by_uid faults →
+pub begun : (had : Numbered) (by_uid : BTreeMap SummedUid ℕ) (faults : List (Option Fault)) → AreNumbered had by_uid faults →
     AreNumbered (record had { part = 0 }) by_uid faults
 begun had by_uid faults are = record { places = are.places; first = are.first; long = are.long }
 

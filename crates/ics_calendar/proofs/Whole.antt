@@ -4,7 +4,7 @@ use Rattle.std.proofs.Common.{inl, inr}
 use Rattle.ics_text.specs.Unfolded.{Rises, unfolded, begins_with_fold}
 use Rattle.ics_components.specs.declared.fault.FileFault.{FileFault}
 use Rattle.ics_components.specs.declared.fault.FileFault.TheVariants.{Memory, At}
-use Rattle.ics_calendar.specs.UnresolvedFiles.{IsFaultOf}
+use Rattle.ics_calendar.specs.UnresolvedFiles.{IsFaultOf, IsFirstOf}
 use Rattle.ics_event.specs.Event.{FileSaid}
 use Rattle.ics_components.specs.Faults.{stands}
 use Rattle.ics_calendar.specs.LaterFaults.{stands_later}
@@ -55,16 +55,19 @@ first-parsed file r = rw (pass-whole (unfolded file) r) (found-in _ _ _)
 pub whole-parsed : (file : List ℕ) (g : ParsedFileSeen) → Rises 0 (unfolded file) → parsed_of file ≡ Ok g → first_fault (placed file) ≡ None
 whole-parsed file g r e = subst (Found (begins_with_fold file) (first_fault (placed file))) e (first-parsed file r)
 
-pub fault-parsed : (file : List ℕ) (fault : FileFault) → Rises 0 (unfolded file) → Says {X = ParsedFileSeen} (λ g. g) (Err fault) (parsed_of file) →
-    IsFaultOf file fault
-fault-parsed file Memory r e = tt
-fault-parsed file (At line kind) r e =
-    let d : unresolved_of file ≡ unresolved_at (Err (record { line = line; kind = kind })) = parsed file r ∙ ap unresolved_at e in
+pub first-fault : (file : List ℕ) (fault : Fault) → Rises 0 (unfolded file) → parsed_of file ≡ Err fault → IsFirstOf file fault
+first-fault file fault r e =
+    let d : unresolved_of file ≡ unresolved_at (Err fault) = parsed file r ∙ ap unresolved_at e in
     record {
       refused = λ files. ap (λ (d : UnresolvedSaid). d.says files) d;
       unasked = ap (λ (d : UnresolvedSaid). d.wants) d;
       found = subst (Found (begins_with_fold file) (first_fault (placed file))) e (first-parsed file r);
     }
+
+pub fault-parsed : (file : List ℕ) (fault : FileFault) → Rises 0 (unfolded file) → Says {X = ParsedFileSeen} (λ g. g) (Err fault) (parsed_of file) →
+    IsFaultOf file fault
+fault-parsed file Memory r e = tt
+fault-parsed file (At line kind) r e = first-fault file (record { line = line; kind = kind }) r e
 
 -- a fault whatever zone files are given is the answer with each
 pub fault-says : (file : List ℕ) (fault : FileFault) (files : GivenFiles) → IsFaultOf file fault → SaysFile (Err fault) (file_of files file)

@@ -5,3 +5,4 @@ pub mod UnknownNames
 pub mod PartsRead
 pub mod SharedFaults
 pub mod Labels
+pub mod SummedUids

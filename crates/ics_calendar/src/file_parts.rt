@@ -9,7 +9,9 @@ ghost use Rattle.ics_components.specs.ParsedFiles.{IsSoundParsed};
 ghost use Rattle.ics_event.specs.Event.{said_by};
 ghost use Rattle.ics_calendar.specs.DeferredChecks.{is_same};
 ghost use Rattle.ics_calendar.specs.Parts.{fault_cmp, in_order};
-ghost use Rattle.ics_components.specs.Parted.{IsSoundParted, parted_of};
+ghost use Rattle.ics_components.specs.Fronts.{IsFrontOf};
+ghost use Rattle.ics_components.specs.PlacedLines.{placed};
+ghost use Rattle.ics_components.specs.Parted.{IsSoundParted, LacksUids, parted_of};
 ghost use Rattle.ics_calendar.specs.Inner.PartialFiles.{ArePartsOf};
 ghost use Rattle.ics_calendar.specs.Inner.PartsRead.{AreRead};
 ghost use Rattle.ics_calendar.specs.Inner.SoundParts.{checks_of, faults_at, is_sound, later_of, listed, gathered_of, named_at, names_zone, of_parts};
@@ -27,8 +29,8 @@ use crate::zone::copied_zone;
 use crate::zone_files::ZoneFiles;
 use crate::zone_table::ZoneTable;
 use ics_components::{
-    CalendarZone, Fault, FileFault, ParsedFile, PartedComponent, PartedFile, Tzid, ZoneName,
-    parse_parts,
+    CalendarZone, Fault, FileFault, Front, ParsedFile, PartedComponent, PartedFile, Tzid, ZoneName,
+    lacks_uids, parse_parts, parse_parts_behind,
 };
 use ics_event::FileEvents;
 use std::alloc::{AllocError, Global};
@@ -271,7 +273,8 @@ fn gathered(
     ensures { IfOk result (λ parsed. parsed ≡ gathered_of sound.items zones.items) }
 {
     let mut events = Vec::with_capacity(alloc, sound.len())?;
-    let mut checks = Vec::new(alloc);
+    // most events defer one check
+    let mut checks = Vec::with_capacity(alloc, sound.len())?;
     for one in sound {
         let SoundEvent {
             zones: names,
@@ -356,7 +359,24 @@ impl FileParts {
         requires { length bytes.now ≤ 16_777_216 }
         ensures { IfOk result (ArePartsOf name.now bytes.now) }
     {
-        match parse_parts(alloc, bytes, None)? {
+        FileParts::behind(alloc, name, bytes, Front::none(alloc))
+    }
+
+    /// The same. The lines of the events of a front are not read again.
+    pub fn behind(
+        alloc: Global,
+        name: &str,
+        bytes: &[u8],
+        front: Front,
+    ) -> Result<Option<FileParts>, AllocError>
+        requires size { length bytes.now ≤ 16_777_216 }
+        requires front { IsFrontOf (placed bytes.now) front }
+        ensures { IfOk result (ArePartsOf name.now bytes.now) }
+    {
+        if lacks_uids(alloc, bytes)? {
+            return FileParts::made(alloc, name, bytes);
+        }
+        match parse_parts_behind(alloc, bytes, front)? {
             Some(parted) => FileParts::with_uids(alloc, name, bytes, parted),
             None => Ok(None),
         }
@@ -377,6 +397,14 @@ impl FileParts {
             return Ok(Some(FileParts::of(alloc, parted)?));
         }
         drop(parted);
+        FileParts::made(alloc, name, bytes)
+    }
+
+    /// The parts of a file that has parts, and no event of which has a UID.
+    fn made(alloc: Global, name: &str, bytes: &[u8]) -> Result<Option<FileParts>, AllocError>
+        requires { LacksUids bytes.now }
+        ensures { IfOk result (ArePartsOf name.now bytes.now) }
+    {
         match parse_parts(alloc, bytes, Some(name))? {
             Some(parted) => Ok(Some(FileParts::of(alloc, parted)?)),
             None => Ok(None),

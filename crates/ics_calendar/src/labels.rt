@@ -1,19 +1,18 @@
 //! The numbers of parts: each part has the place of its UID among those of all events.
 ghost use Rattle.std.specs.Prelude.{◌≡◌, ◌∷◌, [], ℕ, List, if◌then◌else◌, Some, None, map, fold, IfOk, OnOk};
-ghost use Rattle.std.specs.BTreeMap.{get};
-ghost use Rattle.std.specs.Cmp.Lexicographic.{slice_cmp};
 ghost use Rattle.std.specs.List.{list_any};
 ghost use Rattle.std.specs.Option.{option_or};
-ghost use Rattle.std.specs.Ordering.{nat_cmp};
 ghost use Rattle.std.specs.Str.{bytes_eq};
 ghost use Rattle.ics_calendar.specs.Inner.Labels.{AreLabels, AreNumbered};
 ghost use Rattle.ics_calendar.specs.Inner.PartsRead.{fault_read, labelled, least_at, nothing_labelled, numbered_with};
 ghost use Rattle.ics_calendar.specs.Inner.PartsRead.{searched, with_event, with_key, Labelled, Numbered};
-ghost use Rattle.ics_calendar.specs.Inner.SharedFaults.{needed_by, number_by};
+ghost use Rattle.ics_calendar.specs.Inner.SharedFaults.{needed_by};
+ghost use Rattle.ics_calendar.specs.Inner.SummedUids.{number_by, place_of};
 
 use crate::file_parts::SoundEvent;
 use crate::rising::numbers_rise;
 use crate::shared_faults::SharedFaults;
+use crate::summed_uid::SummedUid;
 use ics_components::{Fault, ParsedFile, PartedComponent, earlier};
 use ics_event::Text;
 use std::alloc::{AllocError, Global};
@@ -29,17 +28,22 @@ fn note_least(faults: &mut Vec<Option<Fault>>, part: usize, fault: Option<Fault>
 }
 
 /// The number of the part of a UID: that of an event before, or a new one.
-fn number(by_uid: &mut BTreeMap<Text, usize>, uid: Text, place: usize) -> Result<usize, AllocError>
+fn number(
+    by_uid: &mut BTreeMap<SummedUid, usize>,
+    uid: Text,
+    place: usize,
+) -> Result<usize, AllocError>
     ensures number { IfOk result (λ number. number ≡ number_by by_uid.old place uid) }
-    ensures put { OnOk result ((other : List ℕ) → get (slice_cmp nat_cmp) by_uid.new other
-        ≡ option_or (get (slice_cmp nat_cmp) by_uid.old other) (if bytes_eq other uid then Some place else None)) }
+    ensures put { OnOk result ((other : List ℕ) → place_of by_uid.new other
+        ≡ option_or (place_of by_uid.old other) (if bytes_eq other uid then Some place else None)) }
 {
+    let uid = SummedUid::of(uid);
     Ok(*by_uid.entry(uid)?.or_insert(place))
 }
 
 /// Notes a first fault of the part of a UID, which may be new, and answers its number.
 fn note_uid(
-    by_uid: &mut BTreeMap<Text, usize>,
+    by_uid: &mut BTreeMap<SummedUid, usize>,
     faults: &mut Vec<Option<Fault>>,
     uid: Text,
     fault: Option<Fault>,
@@ -58,7 +62,7 @@ fn note_uid(
 
 /// Notes a first fault of the parts of an event with UIDs, and answers the number of the last.
 fn note_uids(
-    by_uid: &mut BTreeMap<Text, usize>,
+    by_uid: &mut BTreeMap<SummedUid, usize>,
     faults: &mut Vec<Option<Fault>>,
     uids: Vec<Text>,
     fault: Option<Fault>,
@@ -77,7 +81,7 @@ fn note_uids(
 
 /// Notes a first fault of the parts of an event, and answers the number of the last. Without a UID it is a part of its own.
 fn note_event(
-    by_uid: &mut BTreeMap<Text, usize>,
+    by_uid: &mut BTreeMap<SummedUid, usize>,
     faults: &mut Vec<Option<Fault>>,
     uids: Vec<Text>,
     fault: Option<Fault>,
@@ -121,21 +125,21 @@ fn fault_read(read: &Result<ParsedFile, Fault>) -> Option<Fault>
 /// The sound events of a file with the numbers of their parts, and the first fault of each part.
 #[derive(Drop)]
 pub struct Labels {
-    pub by_uid: BTreeMap<Text, usize>,
+    pub by_uid: BTreeMap<SummedUid, usize>,
     pub faults: Vec<Option<Fault>>,
     pub events: Vec<SoundEvent>,
 }
 
 impl Labels {
-    /// Those of no events.
-    fn new(alloc: Global) -> Labels
-        ensures { AreLabels nothing_labelled result }
+    /// Those of no events, with room for so many.
+    fn new(alloc: Global, room: usize) -> Result<Labels, AllocError>
+        ensures { IfOk result (AreLabels nothing_labelled) }
     {
-        Labels {
+        Ok(Labels {
             by_uid: BTreeMap::new(alloc),
-            faults: Vec::new(alloc),
-            events: Vec::new(alloc),
-        }
+            faults: Vec::with_capacity(alloc, room)?,
+            events: Vec::with_capacity(alloc, room)?,
+        })
     }
 
     /// Adds an event, which may be alone in its part.
@@ -182,7 +186,7 @@ impl Labels {
     ) -> Result<Labels, AllocError>
         ensures { IfOk result (AreLabels (labelled (needed_by shared.now) (map (searched are_alone) events.items))) }
     {
-        let mut labels = Labels::new(alloc);
+        let mut labels = Labels::new(alloc, events.len())?;
         for event in events {
             labels.add(event, are_alone, shared)?;
         }

@@ -12,6 +12,7 @@ mod read;
 mod rising;
 mod shared_faults;
 mod shared_zones;
+mod summed_uid;
 mod unknown_zones;
 mod unresolved_file;
 mod zone;

@@ -4,6 +4,8 @@ ghost use Rattle.ics_calendar.specs.Files.{file_of};
 ghost use Rattle.ics_calendar.specs.GivenFiles.{files_by};
 ghost use Rattle.ics_calendar.specs.Parts.{file_gives, names_for_parts, nothing_said};
 ghost use Rattle.ics_calendar.specs.UnresolvedFiles.{IsFirstOf};
+ghost use Rattle.ics_components.specs.Fronts.{IsFrontOf};
+ghost use Rattle.ics_components.specs.PlacedLines.{placed};
 ghost use Rattle.ics_calendar.specs.ZoneTables.{given_by};
 
 use crate::file_parts::FileParts;
@@ -12,7 +14,7 @@ use crate::shared_zones::SharedZones;
 use crate::unknown_zones::copied;
 use crate::unresolved_file::UnresolvedFile;
 use crate::zone_files::ZoneFiles;
-use ics_components::{Fault, FileFault};
+use ics_components::{Fault, FileFault, Front};
 use ics_event::FileEvents;
 use std::alloc::{AllocError, Global};
 use std::marker::Model;
@@ -106,16 +108,13 @@ impl<'a> PartialFile<'a> {
         requires { length bytes.now ≤ 16_777_216 }
         ensures { IfOk result (λ partial. partial ≡ record { name = name.now; bytes = bytes.now }) }
     {
-        match UnresolvedFile::sharing(alloc, shared, bytes) {
+        match UnresolvedFile::or_front(alloc, shared, bytes)? {
             Ok(unresolved) => Ok(PartialFile {
                 name,
                 bytes,
                 state: State::Whole(unresolved),
             }),
-            Err(FileFault::Memory) => Err(AllocError),
-            Err(FileFault::At { line, kind }) => {
-                PartialFile::in_parts(alloc, name, bytes, Fault { line, kind })
-            }
+            Err((fault, front)) => PartialFile::in_parts(alloc, name, bytes, fault, front),
         }
     }
 
@@ -125,12 +124,14 @@ impl<'a> PartialFile<'a> {
         name: &'a str,
         bytes: &'a [u8],
         fault: Fault,
+        front: Front,
     ) -> Result<PartialFile<'a>, AllocError>
         requires size { length bytes.now ≤ 16_777_216 }
         requires first { IsFirstOf bytes.now fault }
+        requires front { IsFrontOf (placed bytes.now) front }
         ensures { IfOk result (λ partial. partial ≡ record { name = name.now; bytes = bytes.now }) }
     {
-        let state = match FileParts::read(alloc, name, bytes)? {
+        let state = match FileParts::behind(alloc, name, bytes, front)? {
             Some(parts) => State::Parted(fault, parts),
             None => State::Refused(fault),
         };

@@ -2,6 +2,7 @@
 ghost use Rattle.std.specs.Prelude.{◌≡◌, ◌≤◌, length, map, None, IfOk, IfErr, OnOk};
 ghost use Rattle.std.specs.List.{All};
 ghost use Rattle.ics_calendar.specs.UnresolvedFiles.{unresolved_said, IsFaultOf};
+ghost use Rattle.ics_calendar.specs.Inner.PartialFiles.{IsReadOrFront};
 ghost use Rattle.ics_calendar.specs.Files.{unresolved_of, SaysFile};
 ghost use Rattle.ics_components.specs.FirstFault.{first_fault};
 ghost use Rattle.ics_components.specs.ParsedFiles.{IsSoundParsed};
@@ -15,7 +16,10 @@ use crate::shared_zones::SharedZones;
 use crate::unknown_zones::{copied, unknown_names};
 use crate::zone_files::ZoneFiles;
 use crate::zone_table::ZoneTable;
-use ics_components::{CalendarEvent, Fault, FileFault, LineCheck, ParsedFile, Tzid, parse_file};
+use ics_components::{
+    CalendarEvent, Fault, FileFault, FirstRead, Front, LineCheck, ParsedFile, Tzid, parse_file,
+    read_first,
+};
 use ics_event::{Event, FileEvents};
 use ics_text::numbers_rise;
 use std::alloc::{AllocError, Global};
@@ -92,6 +96,24 @@ impl UnresolvedFile {
         numbers_rise();
         let parsed = parse_file(alloc, bytes)?;
         Ok(UnresolvedFile::of_parsed(alloc, shared, parsed)?)
+    }
+
+    /// The same, or the file's first fault and the events before it.
+    pub(crate) fn or_front(
+        alloc: Global,
+        shared: &mut SharedZones,
+        bytes: &[u8],
+    ) -> Result<Result<UnresolvedFile, (Fault, Front)>, AllocError>
+        requires { length bytes.now ≤ 16_777_216 }
+        ensures { IfOk result (IsReadOrFront bytes.now) }
+    {
+        numbers_rise();
+        match read_first(alloc, bytes)? {
+            FirstRead::Whole(parsed) => {
+                Ok(Ok(UnresolvedFile::of_parsed(alloc, shared, parsed)?))
+            }
+            FirstRead::Faulty(fault, front) => Ok(Err((fault, front))),
+        }
     }
 
     /// What is gathered of a file, with the names that it wants.

@@ -32,7 +32,7 @@ use Rattle.ics_components.proofs.PartsLemmas.{apart, behind-begun, behind-inner}
 use Rattle.ics_components.proofs.RestFaults.{never-both, two-of}
 use Rattle.ics_components.proofs.Returns.{begins-by-name}
 
-reads-are : (fs gs : List Frame) (x y : ParsedFileSeen) → Reads fs x ≡ Reads gs y → x ≡ y
+pub reads-are : (fs gs : List Frame) (x y : ParsedFileSeen) → Reads fs x ≡ Reads gs y → x ≡ y
 reads-are fs gs x y e = cc
 
 -- THE LINES FROM A BEGIN ON, by which its component is read.

@@ -105,7 +105,7 @@ plain-there (c ∷ d ∷ ds) p =
     plain-in (context_of (d ∷ ds)) c.name (plain-there (d ∷ ds) two.0) two.1
 
 -- the components that are open, each without what is collected of it
-abbrev frames_at : List Open → List Frame
+abbrev pub frames_at : List Open → List Frame
 frames_at [] = bottom ∷ []
 frames_at (c ∷ cs) = frame_of [] (c ∷ cs) [] ∷ frames_at cs
 
@@ -113,7 +113,7 @@ length-at : (path : List Open) → length (frames_at path) ≡ suc (length path)
 length-at [] = refl
 length-at (c ∷ cs) = ap suc (length-at cs)
 
-steady : (q : Context) → is_plain q ≡ true → (b : Builder) → joined (builder_at [] [] q) b ≡ builder_at [] [] q
+pub steady : (q : Context) → is_plain q ≡ true → (b : Builder) → joined (builder_at [] [] q) b ≡ builder_at [] [] q
 steady context.Outside p b = refl
 steady context.Calendar p b = refl
 steady context.Elsewhere p b = refl
@@ -125,7 +125,7 @@ unnoted context.Calendar p n c = refl
 unnoted context.Elsewhere p n c = refl
 unnoted _ p n c = cc
 
-nothing-passes : (path : List Open) → is_plain (context_of path) ≡ true → (n : Name) (c : Parts) →
+pub nothing-passes : (path : List Open) → is_plain (context_of path) ≡ true → (n : Name) (c : Parts) →
     passing n c (frames_at path) ≡ line_result ended.Nothing None
 nothing-passes [] p name.Begin c = refl
 nothing-passes [] p name.End c = refl
@@ -146,7 +146,7 @@ nothing-passes (o ∷ os) p n c = by_context (context_of (o ∷ os)) p n
     by_context context.Elsewhere p _ = refl
     by_context _ p n = cc
 
-nothing-more : (number : ℕ) (had : ParsedFileSeen) → and_line number (line_result ended.Nothing None) had ≡ had
+pub nothing-more : (number : ℕ) (had : ParsedFileSeen) → and_line number (line_result ended.Nothing None) had ≡ had
 nothing-more number had = simp append-nil
 
 -- what is open behind a line of that name
@@ -185,19 +185,19 @@ module _ (l : Placed) (out : part_in l.path ≡ None) where
   fault-at c (o ∷ os) =
       ap (fault_in (named c) c (frame_of [] (o ∷ os) [])) (length-at os) ∙ sym (least-same [] (o ∷ os) l.number c [] (λ e. refl))
 
-  fault-same : (c : Parts) → l.content ≡ Some c → stands BadNesting [] l ≡ false → stands TooDeep [] l ≡ false →
+  pub fault-same : (c : Parts) → l.content ≡ Some c → stands BadNesting [] l ≡ false → stands TooDeep [] l ≡ false →
       fault_on (named c) c (frames_at l.path) ≡ find (λ kind. stands kind [] l) kinds_there
   fault-same c e n d =
       fault-at c l.path
       ∙ ap (λ (k : Placed). find (λ kind. stands kind [] k) kinds) (λ i. record { number = l.number; content = sym e i; path = l.path })
       ∙ least-there n d
 
-  frames-behind : (c : Parts) → l.content ≡ Some c → behind l.number (named c) c (frames_at l.path) ≡ frames_at (path_behind l)
+  pub frames-behind : (c : Parts) → l.content ≡ Some c → behind l.number (named c) c (frames_at l.path) ≡ frames_at (path_behind l)
   unfolding name_on
   frames-behind c e = rw e (frames-by l.number c l.path out (named c))
 
 -- a component of which the lines are read by themselves
-around : (path : List Open) (word : List ℕ) → is_part path word ≡ true → frames_around path ≡ frames_at path
+pub around : (path : List Open) (word : List ℕ) → is_part path word ≡ true → frames_around path ≡ frames_at path
 around [] word e = refl
 around (c ∷ []) word e =
     let calendar = sym (in_calendar_by c) ∙ (two-of (is_calendar_context (context_of (c ∷ []))) _ e).0 in
@@ -258,7 +258,7 @@ Within ls =
     part_in path ≡ Some b → ReturnsTo (frames_at (outer_of b path)) (read_behind read (filter (is_within b) ls)) →
     read_behind read ls ≡ as_read (then_read (gathered_in (read_behind read (filter (is_within b) ls))) (each_read ls))
 
-neither-of : (a b : Bool) → not (a || b) ≡ true → (a ≡ false) × (b ≡ false)
+pub neither-of : (a b : Bool) → not (a || b) ≡ true → (a ≡ false) × (b ≡ false)
 neither-of a b e = (grind (arith, e), grind (arith, e))
 
 then-all : (had : ParsedFileSeen) (later : Result ParsedFileSeen Fault) → and_read had (as_read later) ≡ as_read (then_read (Ok had) later)
@@ -426,7 +426,7 @@ folds [] = (λ n path f h end nest p. rw end refl, λ n path b read f h end nest
 folds (l ∷ ls) = (outside-on l ls (folds ls), within-on l ls (folds ls))
 
 -- LINES IN THEIR PLACES that nest well are read one component after the other.
-no-path : (path : List Open) → no_open path ≡ true → path ≡ []
+pub no-path : (path : List Open) → no_open path ≡ true → path ≡ []
 no-path [] e = refl
 no-path (c ∷ cs) e = cc
 

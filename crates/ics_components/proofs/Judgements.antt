@@ -1,6 +1,6 @@
 -- What the table of faults says of a line by its name, as the reader judges it.
 use Rattle.std.proofs.Common.{append-nil, subst, ◌≡◌, Bool, true, false, ◌&&◌, ◌||◌, not, ◌==◌, length, refl, arith, cond, Option, Some, None, is_some}
-use Rattle.std.specs.Prelude.{codes, ℕ, List, [], ◌∷◌}
+use Rattle.std.specs.Prelude.{codes, ℕ, List, [], ◌∷◌, Result, Ok, Err}
 use Rattle.std.specs.Option.{option_or}
 use Rattle.ics_text.specs.ContentLines.{Parts, param_of}
 use Rattle.ics_components.specs.declared.builder.Builder.{Builder}
@@ -13,9 +13,11 @@ use Rattle.ics_components.specs.declared.fault.FaultKind.TheVariants as kind
 use Rattle.ics_components.specs.declared.frame.Frame.{Frame}
 use Rattle.ics_components.specs.declared.name.Name.{Name}
 use Rattle.ics_components.specs.declared.name.Name.TheVariants as name
+use Rattle.ics_components.specs.declared.refused.Refused.{Refused}
+use Rattle.ics_components.specs.declared.refused.Refused.TheVariants.{Memory, Fault}
 use Rattle.ics_components.specs.Faults.{event_reading, observance_reading}
 use Rattle.ics_components.specs.Lines.{misread, unfit, event_has, observance_has, least_fault, outside_fault, end_fault, line_fault, is_mark}
-use Rattle.ics_components.specs.Lines.{builder_note, builder_zone, fault_on, behind, passing}
+use Rattle.ics_components.specs.Lines.{Leaves, builder_note, builder_zone, fault_on, behind, passing}
 use Rattle.ics_components.specs.ParsedFiles.{and_line}
 use Rattle.ics_components.specs.ParsedFileSeen.{ParsedFileSeen}
 use Rattle.ics_components.specs.Pass.{is_lowest}
@@ -106,3 +108,9 @@ outside_line _ v m = refl
 pub outside_end : (v : Parts) → outside_fault name.End v ≡ Some kind.NotCalendar
 unfolding least_fault
 outside_end v = refl
+
+-- A LINE THAT HAS A FAULT leaves what is gathered.
+pub leaves_same : {Y : Type 0} (result : Result Unit Refused) (had : Y) → Leaves result had had
+leaves_same (Ok taken) had = tt
+leaves_same (Err Memory) had = tt
+leaves_same (Err (Fault kind)) had = refl

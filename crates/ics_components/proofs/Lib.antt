@@ -36,3 +36,10 @@ pub mod GatheredItems
 pub mod BlockHolds
 pub mod PartKinds
 pub mod PassedLines
+pub mod BareLines
+pub mod BareFiles
+pub mod ReadTo
+pub mod FrontLists
+pub mod FrontSteps
+pub mod FrontParts
+pub mod FrontedWhole

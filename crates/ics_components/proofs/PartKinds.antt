@@ -50,16 +50,16 @@ kept_held Kind part is ls b = record {
 }
 
 -- IN A TIME ZONE no events and no checks are gathered.
-abbrev InZone : Builder → Type 0
+abbrev pub InZone : Builder → Type 0
 InZone (builder.Zone had) = Unit {0}
 InZone (builder.Observance had) = Unit {0}
 InZone builder.Elsewhere = Unit {0}
 InZone _ = ⊥
 
-abbrev no_zones : ParsedFileSeen → ParsedFileSeen
+abbrev pub no_zones : ParsedFileSeen → ParsedFileSeen
 no_zones had = record had { zones = [] }
 
-begins-zone : (b : Builder) → InZone b → (c : Component) → InZone (builder_at [] [] (context_in (context_at b) c))
+pub begins-zone : (b : Builder) → InZone b → (c : Component) → InZone (builder_at [] [] (context_in (context_at b) c))
 begins-zone (builder.Zone had) k component.Standard = tt
 begins-zone (builder.Zone had) k component.Daylight = tt
 begins-zone (builder.Zone had) k _ = tt
@@ -67,20 +67,20 @@ begins-zone (builder.Observance had) k c = tt
 begins-zone builder.Elsewhere k c = tt
 begins-zone _ k c = absurd k
 
-ends-zone : (g b : Builder) → InZone g → InZone (joined g b)
+pub ends-zone : (g b : Builder) → InZone g → InZone (joined g b)
 ends-zone (builder.Zone had) (builder.Observance other) k = tt
 ends-zone (builder.Zone had) _ k = tt
 ends-zone (builder.Observance had) b k = tt
 ends-zone builder.Elsewhere b k = tt
 ends-zone _ b k = absurd k
 
-notes-zone : (n : Name) (c : Parts) (b : Builder) → InZone b → InZone (builder_note n c b)
+pub notes-zone : (n : Name) (c : Parts) (b : Builder) → InZone b → InZone (builder_note n c b)
 notes-zone n c (builder.Zone had) k = tt
 notes-zone n c (builder.Observance had) k = tt
 notes-zone n c builder.Elsewhere k = tt
 notes-zone n c _ k = absurd k
 
-same-zone : (number : ℕ) (n : Name) (c : Parts) (f : Frame) → InZone f.builder → (had : ParsedFileSeen) →
+pub same-zone : (number : ℕ) (n : Name) (c : Parts) (f : Frame) → InZone f.builder → (had : ParsedFileSeen) →
     no_zones (and_line number (passing n c (f ∷ [])) had) ≡ no_zones had
 same-zone number n c f k had = by_builder f.builder k n
   where

@@ -13,9 +13,10 @@ use Rattle.ics_components.specs.declared.frame.Frame.{Frame}
 use Rattle.ics_components.specs.Inner.Known.{is_known}
 use Rattle.ics_components.specs.Lines.{fault_on, is_mark}
 use Rattle.ics_components.specs.Names.{same_name}
+use Rattle.ics_components.specs.Parted.{Reads}
 use Rattle.ics_components.specs.Pass.{pass_on, is_lowest, GoesBehind}
 use Rattle.ics_components.specs.Inner.PassedLines.{Passes}
-use Rattle.ics_components.specs.Inner.Passing.{GoesOn}
+use Rattle.ics_components.specs.Inner.Passing.{GoesOn, ReadsOn}
 use Rattle.ics_components.proofs.Judgements.{outside_line}
 use Rattle.ics_components.specs.PlacedLines.{named}
 
@@ -34,6 +35,14 @@ goes-over (Ok t) round next line u p n = λ lines.
 goes-over (Err Memory) round next line u p n = tt
 goes-over (Err (Fault kind)) round next line u p n = λ lines. rw (u.are, p) refl
 
+pub reads-over : (result : Result Unit Refused) (round next : FirstRound) (line : Line) (u : IsUnread is_known line.bytes) →
+    Passes result line.number u.parts round.stack → IfOk result (λ _. next ≡ record round { last = Some line.number }) →
+    (next.parsed ≡ round.parsed) → ReadsOn result line round next
+reads-over (Ok t) round next line u p n e =
+    rw (u.are, p.0, sym p.1, sym (p.2 round.parsed)) (ap (λ (r : FirstRound). Reads r.stack r.parsed) (sym n))
+reads-over (Err Memory) round next line u p n e = tt
+reads-over (Err (Fault kind)) round next line u p n e = e
+
 -- what the components that are open judge of every line that is not read
 abbrev pub Judges : Result Unit Refused → FirstRound → Type 0
 Judges result round = (number : ℕ) (content : Parts) → name.Other ≡ named content → Passes result number content round.stack
@@ -45,6 +54,9 @@ passed-on number lines rest round next p judged n = record {
   first = p.first;
   is = p.number;
   goes = goes-over (Ok tt) round next p.line p.unread (judged p.line.number p.unread.parts (unread-other p.unread)) (rw p.number n);
+  reads =
+      reads-over (Ok tt) round next p.line p.unread (judged p.line.number p.unread.parts (unread-other p.unread)) (rw p.number n)
+      (ap (λ (r : FirstRound). r.parsed) n);
   last = ap (λ (r : FirstRound). r.last) n;
 }
 
@@ -55,6 +67,7 @@ refused-there number lines rest round refused p judged = record {
   first = p.first;
   is = p.number;
   goes = goes-over (Err refused) round round p.line p.unread (judged p.line.number p.unread.parts (unread-other p.unread)) tt;
+  reads = reads-over (Err refused) round round p.line p.unread (judged p.line.number p.unread.parts (unread-other p.unread)) tt refl;
   last = tt;
 }
 

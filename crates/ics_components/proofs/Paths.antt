@@ -1,10 +1,9 @@
 -- Where lines stand, by the names of the components that are open.
-use Rattle.std.proofs.Common.{◌≡◌, ◌≤◌, Bool, true, false, List, [], ◌∷◌, ℕ, refl, ap, ◌∙◌, ◌==◌, ◌&&◌, arith, map, length, sym}
+use Rattle.std.proofs.Common.{◌≡◌, ◌≤◌, Bool, true, false, List, [], ◌∷◌, ℕ, refl, ap, ◌∙◌, ◌==◌, ◌&&◌, arith, length, sym}
 use Rattle.std.proofs.lemmas.List.{length-reverse}
 use Rattle.std.specs.Prelude.{codes, reverse}
 use Rattle.std.specs.Str.{bytes_eq}
 use Rattle.std.proofs.lemmas.Slice.Eq.{bytes_eq-Decides}
-use Rattle.ics_text.specs.Bytes.{upper}
 use Rattle.ics_components.specs.Components.{component_of, component_name, is_calendar_context, is_event_context}
 use Rattle.ics_components.specs.declared.component.Context.TheVariants as context
 use Rattle.ics_components.specs.EventLines.{in_any_event}
@@ -18,9 +17,6 @@ bytes_eq-back [] [] = refl
 bytes_eq-back [] (y ∷ ys) = refl
 bytes_eq-back (x ∷ xs) [] = refl
 bytes_eq-back (x ∷ xs) (y ∷ ys) = let again = bytes_eq-back xs ys in grind (arith, again)
-
-pub name_back : (name word : List ℕ) → map upper word ≡ word → bytes_eq (map upper word) name ≡ bytes_eq name word
-name_back name word e = rw e (bytes_eq-back word name)
 
 pub component_called : (u : List ℕ) → component_name (component_of u) ≡ u
 component_called u = component_name-of u
@@ -58,6 +54,10 @@ not-two (c ∷ d ∷ e ∷ es) h =
 
 pub no_event : (os : List Open) → (length os == 2) ≡ false → is_event_context (context_of (reverse os)) ≡ false
 no_event os h = not-two (reverse os) (rw (length-reverse os) h)
+
+-- what is no UID is none of an event
+pub never_both : (a b : Bool) → b ≡ false → false ≡ (a && b)
+never_both a b e = grind (arith, e)
 
 -- an event of a calendar is an event
 flip : (a b : Bool) → (a && b) ≡ (b && a)

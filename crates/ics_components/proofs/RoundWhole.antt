@@ -68,7 +68,7 @@ nested-is (l ∷ ls) path u =
     two-tests (nested (path_behind l) (is_uid l) ls) (nests l) (u && is_none l.content) (no_open (path_at_end (path_behind l) ls)) (list_all nests ls)
     (broken (is_uid l) ls) (nested-is ls (path_behind l) (is_uid l))
 
-abbrev round_at : List Open → Option PartSeen → Bool → Bool → PartedFileSeen → RoundSeen
+abbrev pub round_at : List Open → Option PartSeen → Bool → Bool → PartedFileSeen → RoundSeen
 round_at path part u o had = record { path = path; part = part; is_behind_uid = u; has_outside = o; parted = had }
 
 none-open : (path : List Open) → no_open path ≡ true → part_in path ≡ None

@@ -3,3 +3,6 @@ pub mod PartsPass
 pub mod Known
 pub mod PassedLines
 pub mod Passing
+pub mod BareLines
+pub mod FrontParts
+pub mod FrontedRound

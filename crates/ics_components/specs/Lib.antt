@@ -17,4 +17,6 @@ pub mod ParsedFileSeen
 pub mod ParsedFiles
 pub mod Pass
 pub mod Parted
+pub mod FrontSeen
+pub mod Fronts
 pub mod Inner

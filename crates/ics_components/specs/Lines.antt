@@ -74,6 +74,12 @@ Notes (Ok x) now fault next value = (fault ≡ None) × (now ≡ next) × (x ≡
 Notes (Err Memory) now fault next value = Unit {0}
 Notes (Err (Fault kind)) now fault next value = fault ≡ Some kind
 
+-- what a line that has a fault leaves as it was
+abbrev pub Leaves : {Y : Type 0} → Result Unit Refused → Y → Y → Type 0
+Leaves (Ok taken) had now = Unit {0}
+Leaves (Err Memory) had now = Unit {0}
+Leaves (Err (Fault kind)) had now = now ≡ had
+
 -- WHAT IS WRONG WITH A VALUE: the least fault of its reading, and why an observance does not take it.
 abbrev pub misread : Reading → Option FaultKind
 misread reading = find (λ kind. is_misread kind reading) kinds

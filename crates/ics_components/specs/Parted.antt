@@ -1,5 +1,5 @@
 -- What is gathered of a file event by event and time zone by time zone, each by itself, so that one that is faulty leaves the others as they are.
-use Rattle.std.specs.Prelude.{ℕ, ◌<◌, ◌≤◌, ◌≡◌, Bool, true, ◌&&◌, ◌||◌, not, ◌==◌, List, [], ◌∷◌, filter, find, map, codes, Option, Some, None}
+use Rattle.std.specs.Prelude.{ℕ, ◌<◌, ◌≤◌, ◌≡◌, Bool, true, false, ◌&&◌, ◌||◌, not, ◌==◌, List, [], ◌∷◌, filter, find, map, codes, Option, Some, None}
 use Rattle.std.specs.Prelude.{Result, Ok, Err, IfOk, option_map, is_none, if◌then◌else◌}
 use Rattle.std.specs.List.{All, flat_map, list_all}
 use Rattle.std.specs.Option.{option_or}
@@ -14,7 +14,8 @@ use Rattle.ics_components.specs.declared.fault.FaultKind.{FaultKind}
 use Rattle.ics_components.specs.declared.fault.FaultKind.TheVariants.{BadLine, NotCalendar, OldVersion}
 use Rattle.ics_components.specs.declared.frame.Frame.{Frame}
 use Rattle.ics_components.specs.declared.name.Name.TheVariants as name
-use Rattle.ics_components.specs.EventLines.{all_events, breaks_off, is_certain, is_event, is_well_nested, texts_in, uids_of, with_uid, zones_named}
+use Rattle.ics_components.specs.EventLines.{all_events, breaks_off, has_no_uid, has_parts, is_certain, is_event}
+use Rattle.ics_components.specs.EventLines.{is_well_nested, texts_in, uids_of, with_uid, zones_named}
 use Rattle.ics_components.specs.Faults.{stands}
 use Rattle.ics_components.specs.FirstFault.{fault_at_end}
 use Rattle.ics_components.specs.Lines.{behind, fault_on, passing}
@@ -153,6 +154,12 @@ if_parted file lines = if is_well_nested lines && not (breaks_off lines) && is_s
 
 abbrev pub parted_of : Option (List ℕ) → List ℕ → Option PartedFileSeen
 parted_of file bytes = if begins_with_fold bytes then None else if_parted file (lines_with file (placed bytes))
+
+-- The file has parts, and none of its events has a UID.
+abbrev pub LacksUids : List ℕ → Type 0
+LacksUids bytes =
+    (begins_with_fold bytes ≡ false) × (has_parts (placed bytes) ≡ true)
+    × (list_all (has_no_uid (placed bytes)) (all_events (placed bytes)) ≡ true)
 
 -- What is gathered of each event and of each time zone is sound.
 abbrev pub IsSoundComponent : PartedComponentSeen → Type 0

@@ -3,18 +3,22 @@ ghost use Rattle.std.specs.Prelude.{◌≡◌, ℕ, ◌+◌, ◌<◌, ◌≤◌,
 ghost use Rattle.ics_text.specs.Passing.{IsPassed};
 ghost use Rattle.ics_text.specs.ReadLines.{TakesRead};
 ghost use Rattle.ics_text.specs.Unfolded.{Line, Within};
+ghost use Rattle.ics_components.specs.Fronts.{IsFirstRead};
+ghost use Rattle.ics_components.specs.Inner.FrontedRound.{IsReadTo};
 ghost use Rattle.ics_components.specs.Inner.Known.{is_known};
+ghost use Rattle.ics_components.specs.PlacedLines.{Open, placed_from};
 ghost use Rattle.ics_components.specs.Pass.{pass_on, GoesBehind, parsed_of, Says};
-ghost use Rattle.ics_components.specs.Inner.Passing.{GoesOn};
+ghost use Rattle.ics_components.specs.Inner.Passing.{GoesOn, ReadsOn};
 ghost use Rattle.ics_components.specs.ParsedFiles.{IsSoundParsed};
 
-use crate::fault::{FaultKind, FileFault};
+use crate::fault::{Fault, FaultKind, FileFault};
+use crate::front::Front;
 use crate::known::Known;
 use crate::parsed_file::ParsedFile;
 use crate::refused::Refused;
 use crate::stack::Stack;
 use ics_text::{Lines, Logical, ReadLine, content, numbers_within};
-use std::alloc::Global;
+use std::alloc::{AllocError, Global};
 
 /// The first round behind some lines: the components that are open, what is gathered, and the number of the last line.
 #[derive(Drop)]
@@ -26,8 +30,10 @@ struct FirstRound {
 
 impl FirstRound {
     /// Takes one line, or answers its fault.
+    #[tactic(auto, using(crate::proofs::ReadTo::reads_there, crate::proofs::ReadTo::reads_refused))]
     fn line(&mut self, alloc: Global, line: &Logical<'_>) -> Result<(), Refused>
         ensures behind { GoesBehind result line.now self.old self.new }
+        ensures reads { ReadsOn result line.now self.old self.new }
         ensures last { IfOk result (λ _. self.new.last ≡ Some line.now.number) }
     {
         let number = line.number();
@@ -85,7 +91,8 @@ impl FirstRound {
     fn lines(&mut self, alloc: Global, mut lines: Lines<'_>) -> Result<(), FileFault>
         requires lines { (n : ℕ) × (n + 1 < 2 ^ 64) × Within n lines }
         requires last { IfSome self.old.last (λ n. n + 1 < 2 ^ 64) }
-        ensures { Says (λ _. self.new.parsed) result (pass_on self.old lines.entry) }
+        ensures says { Says (λ _. self.new.parsed) result (pass_on self.old lines.entry) }
+        ensures front { (path : List Open) → IsReadTo result (placed_from path lines.entry) self.old self.new }
     {
         'lines: while let Some(line) = lines.next_read::<Known>(alloc)? {
             let (number, taken) = self.take(alloc, line);
@@ -96,6 +103,44 @@ impl FirstRound {
             }
         }
         self.end()
+    }
+}
+
+/// What the first round reads: a file without a fault, or its first fault and the events before it.
+#[derive(Drop)]
+pub enum FirstRead {
+    Whole(ParsedFile),
+    Faulty(Fault, Front),
+}
+
+/// What the first round gathers of a file of at most 16,777,216 bytes, or the first fault of that round and the events before it.
+#[inline(never)]
+pub fn read_first(alloc: Global, bytes: &[u8]) -> Result<FirstRead, AllocError>
+    requires { length bytes.now ≤ 16_777_216 }
+    ensures { IfOk result (IsFirstRead bytes.now) }
+{
+    numbers_within();
+    let Ok(lines) = Lines::new(bytes) else {
+        let fault = Fault {
+            line: 1,
+            kind: FaultKind::BadFold,
+        };
+        return Ok(FirstRead::Faulty(fault, Front::none(alloc)));
+    };
+    let mut round = FirstRound {
+        stack: Stack::new(alloc),
+        parsed: ParsedFile::new(alloc),
+        last: None,
+    };
+    let read = round.lines(alloc, lines);
+    let FirstRound { stack, parsed, .. } = round;
+    drop(stack);
+    match read {
+        Ok(()) => Ok(FirstRead::Whole(parsed)),
+        Err(FileFault::Memory) => Err(AllocError),
+        Err(FileFault::At { line, kind }) => {
+            Ok(FirstRead::Faulty(Fault { line, kind }, Front::of(parsed)))
+        }
     }
 }
 
@@ -110,25 +155,12 @@ pub fn parse_file(alloc: Global, bytes: &[u8]) -> Result<ParsedFile, FileFault>
     ensures parsed { Says (λ parsed. parsed) result (parsed_of bytes.now) }
     ensures sound { IfOk result IsSoundParsed }
 {
-    numbers_within();
-    let Ok(lines) = Lines::new(bytes) else {
-        return Err(FileFault::At {
-            line: 1,
-            kind: FaultKind::BadFold,
-        });
-    };
-    let mut round = FirstRound {
-        stack: Stack::new(alloc),
-        parsed: ParsedFile {
-            zones: Vec::new(alloc),
-            events: Vec::new(alloc),
-            checks: Vec::new(alloc),
-        },
-        last: None,
-    };
-    let read = round.lines(alloc, lines);
-    let FirstRound { stack, parsed, .. } = round;
-    drop(stack);
-    read?;
-    Ok(parsed)
+    match read_first(alloc, bytes) {
+        Ok(FirstRead::Whole(parsed)) => Ok(parsed),
+        Ok(FirstRead::Faulty(Fault { line, kind }, front)) => {
+            drop(front);
+            Err(FileFault::At { line, kind })
+        }
+        Err(_) => Err(FileFault::Memory),
+    }
 }

@@ -1,9 +1,11 @@
 //! A component that is open.
-ghost use Rattle.std.specs.Prelude.{◌≡◌, false, IfOk};
+ghost use Rattle.std.specs.Prelude.{◌≡◌, false, true, IfOk};
+ghost use Rattle.ics_components.specs.declared.builder.Builder.TheVariants as builder;
+ghost use Rattle.ics_components.specs.declared.component.Component.TheVariants as component;
 ghost use Rattle.ics_components.specs.declared.parsed_file.ClosedComponent.TheVariants.{Nothing};
 ghost use Rattle.ics_components.specs.ParsedFiles.{and_line};
 ghost use Rattle.ics_components.specs.SecondRound.{zone_check};
-ghost use Rattle.ics_components.specs.Lines.{Keeps, Notes, is_mark, line_fault, end_fault, is_of, joined, line_result, ended_as, end_check};
+ghost use Rattle.ics_components.specs.Lines.{Keeps, Leaves, Notes, is_mark, line_fault, end_fault, is_of, joined, line_result, ended_as, end_check};
 ghost use Rattle.ics_components.specs.Lines.{builder_note, builder_zone};
 ghost use Rattle.ics_components.specs.Pass.{bottom};
 
@@ -39,11 +41,33 @@ impl Frame {
         }
     }
 
+    /// Whether it stands below all components.
+    pub fn is_bottom(&self) -> bool
+        ensures { result ≡ true → self.now ≡ bottom }
+    {
+        match (&self.component, &self.builder) {
+            (Component::Other(name), Builder::Elsewhere) => {
+                name.as_slice().is_empty() && self.calendar == 0
+            }
+            _ => false,
+        }
+    }
+
+    /// Whether it is the calendar that begins on the line with that number.
+    pub fn is_calendar(&self, number: u64) -> bool
+        ensures { result ≡ true → self.now ≡ record { component = component.Calendar; calendar = number; builder = builder.Calendar } }
+    {
+        match (&self.component, &self.builder) {
+            (Component::Calendar, Builder::Calendar) => self.calendar == number,
+            _ => false,
+        }
+    }
+
     /// One line more that begins and ends no component. The check that it leaves to the second round is added with the number of the line.
     ///
     /// A check takes much room, so this stands apart from `Stack::line`, which passes without it what is not read.
     #[inline(never)]
-    #[tactic(auto, unfolding(crate::specs::Lines::least_fault))]
+    #[tactic(auto, using(crate::proofs::Judgements::leaves_same), unfolding(crate::specs::Lines::least_fault))]
     pub fn line(
         &mut self,
         alloc: Global,
@@ -58,6 +82,7 @@ impl Frame {
             (record self.old { builder = builder_note name content.now self.old.builder }) }
         ensures parsed { IfOk result (λ _. parsed.new
             ≡ and_line number (line_result Nothing (zone_check (builder_zone self.old.calendar name content.now self.old.builder))) parsed.old) }
+        ensures kept { Leaves result parsed.old parsed.new }
     {
         match &mut self.builder {
             Builder::Calendar => match name {

@@ -1,10 +1,13 @@
 //! What the lines of one component are read to.
 ghost use Rattle.std.specs.Prelude.{◌≡◌, ◌∷◌, [], IfOk, None, Some};
 ghost use Rattle.ics_components.specs.Parted.{Reads, frames_around, gathered_in, read_on};
+ghost use Rattle.ics_components.specs.Inner.FrontedRound.{still};
 ghost use Rattle.ics_components.specs.ParsedFiles.{nothing_parsed};
 ghost use Rattle.ics_components.specs.Pass.{bottom};
+ghost use Rattle.ics_components.specs.PlacedLines.{named};
 
 use crate::fault::{Fault, FaultKind};
+use crate::name::Name;
 use crate::parsed_file::ParsedFile;
 use crate::path::Path;
 use crate::refused::Refused;
@@ -58,19 +61,32 @@ impl LinesReader {
         Ok(())
     }
 
+    /// Reads no line from here on: what is gathered of them is known.
+    pub fn stand_still(&mut self)
+        ensures { self.new ≡ still }
+    {
+        self.fault = Some(Fault {
+            line: 0,
+            kind: FaultKind::BadLine,
+        });
+    }
+
     /// Reads a line more.
     pub fn read(
         &mut self,
         alloc: Global,
         number: u64,
+        name: Name,
         content: &Content<'_>,
     ) -> Result<(), AllocError>
+        requires { name ≡ named content.now }
         ensures { IfOk result (λ _. self.new ≡ read_on number (Some content.now) self.old) }
     {
         if self.fault.is_some() {
             return Ok(());
         }
-        match self.stack.line(alloc, &mut self.parsed, number, content) {
+        let parsed = &mut self.parsed;
+        match self.stack.named_line(alloc, parsed, number, name, content) {
             Ok(()) => Ok(()),
             Err(Refused::Memory) => Err(AllocError),
             Err(Refused::Fault(kind)) => {

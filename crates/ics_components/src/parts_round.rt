@@ -22,17 +22,17 @@ use std::marker::Model;
 
 /// The round behind some lines.
 #[derive(Drop)]
-struct PartsRound {
-    path: Path,
+pub struct PartsRound {
+    pub path: Path,
     /// The event or the time zone that is open, and the reader of its lines.
-    part: Option<OpenPart>,
-    reader: LinesReader,
-    tzids: Tzids,
+    pub part: Option<OpenPart>,
+    pub reader: LinesReader,
+    pub tzids: Tzids,
     /// The last line is a UID of an event.
-    is_behind_uid: bool,
+    pub is_behind_uid: bool,
     /// One of the lines is of no event and no time zone.
-    has_outside: bool,
-    parted: PartedFile,
+    pub has_outside: bool,
+    pub parted: PartedFile,
 }
 
 impl Model for PartsRound {
@@ -51,7 +51,7 @@ impl Model for PartsRound {
 }
 
 /// Whether a file may still have parts behind a line.
-type HasParts = bool;
+pub type HasParts = bool;
 
 /// A line of a UID of that text.
 fn uid_line(alloc: Global, text: &[u8]) -> Result<Vec<u8>, AllocError>
@@ -83,7 +83,7 @@ fn uid_parts<'a>(line: &'a [u8]) -> Option<Content<'a>>
 
 impl PartsRound {
     /// The round before the first line.
-    fn new(alloc: Global) -> PartsRound
+    pub fn new(alloc: Global) -> PartsRound
         ensures { result ≡ round_begun }
     {
         PartsRound {
@@ -173,7 +173,12 @@ impl PartsRound {
 
     /// Takes a line that is none of an event or of a time zone.
     #[tactic(auto, unfolding(crate::specs::PlacedLines::name_on))]
-    fn outside(&mut self, number: u64, name: Name, content: &Content<'_>) -> Result<(), AllocError>
+    pub fn outside(
+        &mut self,
+        number: u64,
+        name: Name,
+        content: &Content<'_>,
+    ) -> Result<(), AllocError>
         requires { name ≡ named content.now }
         ensures { IfOk result (λ _. self.new
             ≡ record self.old {
@@ -217,7 +222,7 @@ impl PartsRound {
         if directly {
             part.note(alloc, &mut self.tzids, name, content)?;
         }
-        self.reader.read(alloc, number, content)?;
+        self.reader.read(alloc, number, name, content)?;
         if directly && matches!(name, Name::End) {
             return self.close(alloc);
         }
@@ -225,7 +230,7 @@ impl PartsRound {
     }
 
     /// Goes behind a content line.
-    fn pass(
+    pub fn pass(
         &mut self,
         alloc: Global,
         number: u64,
@@ -248,11 +253,12 @@ impl PartsRound {
         &mut self,
         alloc: Global,
         number: u64,
+        name: Name,
         content: &Content<'_>,
     ) -> Result<HasParts, AllocError>
+        requires { name ≡ named content.now }
         ensures { IfOk result (λ has. Steps has (here number (Some content.now) self.old.path) self.old self.new) }
     {
-        let name = name_of(content.name());
         if !self.path.nests(name, content) {
             return Ok(false);
         }
@@ -264,7 +270,7 @@ impl PartsRound {
 
     /// Takes a line that is no content line.
     #[tactic(auto, unfolding(crate::specs::PlacedLines::name_on))]
-    fn take_bad(&mut self, number: u64) -> HasParts
+    pub fn take_bad(&mut self, number: u64) -> HasParts
         ensures { Steps result (here number None self.old.path) self.old self.new }
     {
         if self.is_behind_uid {
@@ -292,7 +298,10 @@ impl PartsRound {
         let text = format!(in alloc; "{file}: line {number}")?;
         let line = uid_line(alloc, text.as_bytes())?;
         match uid_parts(&line) {
-            Some(uid) => self.take(alloc, number, &uid),
+            Some(uid) => {
+                let name = name_of(uid.name());
+                self.take(alloc, number, name, &uid)
+            }
             None => Ok(false),
         }
     }
@@ -307,7 +316,8 @@ impl PartsRound {
     ) -> Result<HasParts, AllocError>
         ensures { IfOk result (λ has. GoesOver has None (here number (Some content.now) self.old.path) self.old self.new) }
     {
-        self.take(alloc, number, content)
+        let name = name_of(content.name());
+        self.take(alloc, number, name, content)
     }
 
     /// Takes a content line, or what stands in its place where each event gets a UID of that name.
@@ -326,12 +336,12 @@ impl PartsRound {
             return Ok(true);
         }
         if !self.path.ends_event(name, content) {
-            return self.take(alloc, number, content);
+            return self.take(alloc, number, name, content);
         }
         if !self.take_made(alloc, file, number)? {
             return Ok(false);
         }
-        self.take(alloc, number, content)
+        self.take(alloc, number, name, content)
     }
 
     /// Takes a line, or what stands in its place where each event gets a UID of that name.
@@ -364,7 +374,7 @@ impl PartsRound {
     }
 
     /// Takes the lines. The answer is false where the file has no parts.
-    fn lines(
+    pub fn lines(
         &mut self,
         alloc: Global,
         file: Option<&str>,
@@ -405,7 +415,7 @@ fn parts_over(
 }
 
 /// What is gathered, if it is certain whose each event is, or each gets a UID.
-fn if_sure(file: Option<&str>, parted: PartedFile) -> Option<PartedFile>
+pub fn if_sure(file: Option<&str>, parted: PartedFile) -> Option<PartedFile>
     ensures { result ≡ if_sure (option_copied file.entry) parted }
 {
     if file.is_some() || parted.is_certain() {

@@ -1,5 +1,5 @@
 //! The components that are open around a line.
-ghost use Rattle.std.specs.Prelude.{◌≡◌, [], IfOk, Some, map};
+ghost use Rattle.std.specs.Prelude.{◌≡◌, [], IfOk, Some, codes, map};
 ghost use Rattle.std.specs.Str.{bytes_eq};
 ghost use Rattle.ics_text.specs.Bytes.{upper};
 ghost use Rattle.ics_components.specs.EventLines.{in_any_event, is_uid, nests};
@@ -56,13 +56,26 @@ impl OpenComponent {
         Ok(OpenComponent { component, begun })
     }
 
-    /// Whether it has that name.
-    #[tactic(auto, using(crate::proofs::Paths::name_back))]
-    fn is(&self, name: &[u8]) -> bool
-        requires { map upper name.now ≡ name.now }
-        ensures { result ≡ bytes_eq self.now.name name.now }
+    /// Whether it is called as a calendar is.
+    fn is_calendar(&self) -> bool
+        ensures { result ≡ bytes_eq self.now.name (codes "VCALENDAR") }
     {
-        self.component.is_named(name)
+        match &self.component {
+            Component::Calendar => true,
+            Component::Other(name) => name.as_slice() == b"VCALENDAR".as_slice(),
+            _ => false,
+        }
+    }
+
+    /// Whether it is called as an event is.
+    fn is_event(&self) -> bool
+        ensures { result ≡ bytes_eq self.now.name (codes "VEVENT") }
+    {
+        match &self.component {
+            Component::Event => true,
+            Component::Other(name) => name.as_slice() == b"VEVENT".as_slice(),
+            _ => false,
+        }
     }
 }
 
@@ -98,7 +111,7 @@ impl Path {
         ensures { result ≡ is_calendar_context (context_of self.now) }
     {
         match self.open.as_slice() {
-            [calendar] => calendar.is(b"VCALENDAR"),
+            [calendar] => calendar.is_calendar(),
             _ => false,
         }
     }
@@ -108,7 +121,7 @@ impl Path {
         ensures { result ≡ is_event_context (context_of self.now) }
     {
         match self.open.as_slice() {
-            [calendar, event] => calendar.is(b"VCALENDAR") && event.is(b"VEVENT"),
+            [calendar, event] => calendar.is_calendar() && event.is_event(),
             _ => false,
         }
     }
@@ -118,8 +131,8 @@ impl Path {
         ensures { result ≡ in_any_event self.now }
     {
         match self.open.as_slice() {
-            [event] => event.is(b"VEVENT"),
-            [calendar, event] => event.is(b"VEVENT") && calendar.is(b"VCALENDAR"),
+            [event] => event.is_event(),
+            [calendar, event] => event.is_event() && calendar.is_calendar(),
             _ => false,
         }
     }
@@ -150,12 +163,16 @@ impl Path {
     }
 
     /// Whether a line is a UID of an event of a calendar.
-    #[tactic(auto, unfolding(crate::specs::PlacedLines::name_on))]
+    #[tactic(auto, using(crate::proofs::Paths::never_both), unfolding(crate::specs::PlacedLines::name_on))]
     pub fn is_event_uid(&self, name: Name, content: &Content<'_>) -> bool
         requires { name ≡ named content.now }
         ensures { result ≡ is_event_uid (here 0 (Some content.now) self.now) }
     {
-        self.is_in_event() && matches!(name, Name::Uid)
+        // most lines are no UID
+        if !matches!(name, Name::Uid) {
+            return false;
+        }
+        self.is_in_event()
     }
 
     /// Whether a line ends an event of a calendar.

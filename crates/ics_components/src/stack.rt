@@ -1,11 +1,11 @@
 //! The components that are open.
-ghost use Rattle.std.specs.Prelude.{◌≡◌, ℕ, ◌∷◌, [], IfOk};
+ghost use Rattle.std.specs.Prelude.{◌≡◌, ℕ, ◌∷◌, [], IfOk, true};
 ghost use Rattle.ics_text.specs.ContentLines.{Parts};
 ghost use Rattle.ics_components.specs.declared.builder.Builder.TheVariants as builder;
 ghost use Rattle.ics_components.specs.declared.component.Component.TheVariants as component;
 ghost use Rattle.ics_components.specs.declared.name.Name.TheVariants.{Begin, End, Other};
 ghost use Rattle.ics_components.specs.ParsedFiles.{and_line};
-ghost use Rattle.ics_components.specs.Lines.{Keeps, fault_on, behind, closed, passing};
+ghost use Rattle.ics_components.specs.Lines.{Keeps, Leaves, fault_on, behind, closed, passing};
 ghost use Rattle.ics_components.specs.PlacedLines.{named};
 ghost use Rattle.ics_components.specs.Pass.{bottom, is_lowest};
 ghost use Rattle.ics_components.specs.Inner.PassedLines.{Passes};
@@ -63,10 +63,23 @@ impl Stack {
         self.top = Frame::bottom(alloc);
     }
 
-    /// A calendar is open that begins on the line with that number, and nothing in it.
+    /// Whether that calendar is open, which begins on the line with that number, and nothing in it.
+    fn is_in_calendar(&self, number: u64) -> bool
+        ensures { result ≡ true → self.now ≡ record { component = component.Calendar; calendar = number; builder = builder.Calendar } ∷ bottom ∷ [] }
+    {
+        match self.outer.as_slice() {
+            [lowest] => lowest.is_bottom() && self.top.is_calendar(number),
+            _ => false,
+        }
+    }
+
+    /// A calendar is open that begins on the line with that number, and nothing in it. Behind an event of it, all stands as it is.
     pub fn restart(&mut self, alloc: Global, number: u64) -> Result<(), AllocError>
         ensures { IfOk result (λ _. self.new ≡ record { component = component.Calendar; calendar = number; builder = builder.Calendar } ∷ bottom ∷ []) }
     {
+        if self.is_in_calendar(number) {
+            return Ok(());
+        }
         let mut outer = Vec::new(alloc);
         outer.push(Frame::bottom(alloc))?;
         self.outer = outer;
@@ -121,7 +134,7 @@ impl Stack {
 
     /// Closes the innermost component by an END on the line with that number, and adds what it is.
     #[inline(never)]
-    #[tactic(auto, unfolding(crate::specs::Lines::least_fault))]
+    #[tactic(auto, using(crate::proofs::Judgements::leaves_same), unfolding(crate::specs::Lines::least_fault))]
     fn end(
         &mut self,
         parsed: &mut ParsedFile,
@@ -130,6 +143,7 @@ impl Stack {
     ) -> Result<(), Refused>
         ensures open { Keeps result self.new (fault_on End content.now self.old) (closed self.old) }
         ensures parsed { IfOk result (λ _. parsed.new ≡ and_line number (passing End content.now self.old) parsed.old) }
+        ensures kept { Leaves result parsed.old parsed.new }
     {
         let Some(outer) = self.outer.pop() else {
             return Err(Refused::Fault(FaultKind::NotCalendar));
@@ -151,7 +165,6 @@ impl Stack {
     }
 
     /// Goes behind the line with that number, and adds what is gathered there.
-    #[tactic(auto, using(crate::proofs::Judgements::outside_line))]
     pub fn line(
         &mut self,
         alloc: Global,
@@ -161,8 +174,28 @@ impl Stack {
     ) -> Result<(), Refused>
         ensures open { Keeps result self.new (fault_on (named content.now) content.now self.old) (behind number (named content.now) content.now self.old) }
         ensures parsed { IfOk result (λ _. parsed.new ≡ and_line number (passing (named content.now) content.now self.old) parsed.old) }
+        ensures kept { Leaves result parsed.old parsed.new }
     {
-        match name_of(content.name()) {
+        let name = name_of(content.name());
+        self.named_line(alloc, parsed, number, name, content)
+    }
+
+    /// The same. The name of the line is known.
+    #[tactic(auto, using(crate::proofs::Judgements::outside_line, crate::proofs::Judgements::leaves_same))]
+    pub fn named_line(
+        &mut self,
+        alloc: Global,
+        parsed: &mut ParsedFile,
+        number: u64,
+        name: Name,
+        content: &Content<'_>,
+    ) -> Result<(), Refused>
+        requires { name ≡ named content.now }
+        ensures open { Keeps result self.new (fault_on (named content.now) content.now self.old) (behind number (named content.now) content.now self.old) }
+        ensures parsed { IfOk result (λ _. parsed.new ≡ and_line number (passing (named content.now) content.now self.old) parsed.old) }
+        ensures kept { Leaves result parsed.old parsed.new }
+    {
+        match name {
             Name::Begin => self.begin(alloc, number, content),
             Name::End => self.end(parsed, number, content),
             _ if self.is_lowest() => Err(Refused::Fault(FaultKind::NotCalendar)),

@@ -1,7 +1,6 @@
 -- The first faults of what several events may need, by maps.
-use Rattle.std.specs.Prelude.{◌≡◌, ℕ, List, Option, unwrap_or}
-use Rattle.std.specs.BTreeMap.{BTreeMap, get}
-use Rattle.std.specs.Cmp.Lexicographic.{slice_cmp}
+use Rattle.std.specs.Prelude.{◌≡◌, ℕ, List, Option}
+use Rattle.std.specs.BTreeMap.{get}
 use Rattle.std.specs.List.{fold}
 use Rattle.std.specs.Ordering.{nat_cmp}
 use Rattle.ics_components.specs.declared.deferred_check.ZoneName.{ZoneName}
@@ -21,10 +20,6 @@ pub record AreShared (calendars : List (ℕ × Fault)) (zones : List PartedCompo
 abbrev pub shared_beside : SharedFaults → ℕ → List (List ℕ) → Option Fault
 shared_beside shared calendar names =
     fold (λ first name. earlier first (get name_cmp shared.zones (record { calendar = calendar; name = name }))) (get nat_cmp shared.calendars calendar) names
-
--- the number of a part by the UIDs before, or a new one
-abbrev pub number_by : BTreeMap (List ℕ) ℕ → ℕ → List ℕ → ℕ
-number_by by_uid place uid = unwrap_or (get (slice_cmp nat_cmp) by_uid uid) place
 
 -- the first fault of what an event needs
 abbrev pub needed_by : SharedFaults → PartedComponentSeen → Option Fault

@@ -1,4 +1,4 @@
-use Rattle.std.proofs.Common.{Some, Ok, Err, refl}
+use Rattle.std.proofs.Common.{Some, refl}
 use Rattle.ics_components.proofs.PassedLines.{passed-on, refused-there}
 use Rattle.ics_components.proofs.first_round.FirstRound.pass_over.Goals as goal
 

@@ -1,0 +1,113 @@
+-- How far the first round has read. What it has gathered is what it reads of the lines before the one where it stands.
+use Rattle.std.proofs.Common.{◌≡◌, ℕ, Bool, true, false, cond, List, [], ◌∷◌, ◌++◌, refl, sym, ap, ◌∙◌, append_assoc, Result, Ok, Err}
+use Rattle.std.specs.Prelude.{None, Some}
+use Rattle.ics_text.specs.ContentLines.{Parts, content_of}
+use Rattle.ics_text.specs.Unfolded.{Line, begins_with_fold, unfolded}
+use Rattle.ics_components.specs.declared.fault.Fault.{Fault}
+use Rattle.ics_components.specs.declared.fault.FileFault.{FileFault}
+use Rattle.ics_components.specs.declared.fault.FileFault.TheVariants.{At}
+use Rattle.ics_components.specs.declared.fault.FileFault.TheVariants as file_fault
+use Rattle.ics_components.specs.declared.first_round.FirstRound.{FirstRound}
+use Rattle.ics_components.specs.declared.refused.Refused.{Refused}
+use Rattle.ics_components.specs.declared.refused.Refused.TheVariants as refused
+use Rattle.ics_components.specs.FirstFault.{bad_fold}
+use Rattle.ics_components.specs.Fronts.{IsFrontOf}
+use Rattle.ics_components.specs.FrontSeen.{FrontSeen, no_front}
+use Rattle.ics_components.specs.Inner.FrontedRound.{IsReadOf, IsReadTo}
+use Rattle.ics_components.specs.Inner.Passing.{ReadsOn}
+use Rattle.ics_components.specs.Inner.PartsPass.{here}
+use Rattle.ics_components.specs.Lines.{Leaves, behind, fault_on, passing}
+use Rattle.ics_components.specs.ParsedFileSeen.{ParsedFileSeen}
+use Rattle.ics_components.specs.ParsedFiles.{and_line, nothing_parsed}
+use Rattle.ics_components.specs.Parted.{LinesRead, Reads, read_behind, read_on}
+use Rattle.ics_components.specs.Pass.{bottom, parsed_of, pass}
+use Rattle.ics_components.specs.PlacedLines.{Placed, Open, named, path_behind, placed_from}
+use Rattle.ics_components.proofs.Blocks.{read-append}
+
+-- one line
+pub reads_there : (line : Line) (parts : Parts) (round next : FirstRound) → content_of line.bytes ≡ Some parts →
+    fault_on (named parts) parts round.stack ≡ None → next.stack ≡ behind line.number (named parts) parts round.stack →
+    next.parsed ≡ and_line line.number (passing (named parts) parts round.stack) round.parsed → ReadsOn (Ok tt) line round next
+reads_there line parts round next is sound stack parsed = rw (is, sound) (λ i. Reads (sym stack i) (sym parsed i))
+
+pub reads_refused : (why : Refused) (line : Line) (round next : FirstRound) → Leaves (Err why) round.parsed next.parsed →
+    ReadsOn (Err why) line round next
+reads_refused refused.Memory line round next kept = tt
+reads_refused (refused.Fault kind) line round next kept = kept
+
+-- from these lines on, of which the last are to come
+pub record HasRead (path : List Open) (lines rest : List Line) (round now : FirstRound) : Type 0 where
+  pub before : List Placed
+  pub there : List Open
+  pub parts : placed_from path lines ≡ before ++ placed_from there rest
+  pub reads : read_behind (Reads round.stack round.parsed) before ≡ Reads now.stack now.parsed
+
+pub begun : (path : List Open) (lines : List Line) (round : FirstRound) → HasRead path lines lines round round
+begun path lines round = record { before = []; there = path; parts = refl; reads = refl }
+
+pub one-further : (path : List Open) (lines rest : List Line) (line : Line) (round now next : FirstRound) →
+    HasRead path lines (line ∷ rest) round now → ReadsOn (Ok tt) line now next → HasRead path lines rest round next
+one-further path lines rest line round now next has on =
+    let at : Placed = here line.number (content_of line.bytes) has.there in
+    record {
+      before = has.before ++ at ∷ [];
+      there = path_behind at;
+      parts = has.parts ∙ sym (append_assoc has.before (at ∷ []) (placed_from (path_behind at) rest));
+      reads =
+          read-append has.before (at ∷ []) (Reads round.stack round.parsed)
+          ∙ ap (λ (read : LinesRead). read_on at.number at.content read) has.reads
+          ∙ on;
+    }
+
+pub read-of : (path : List Open) (lines rest : List Line) (round now : FirstRound) (had : ParsedFileSeen) → HasRead path lines rest round now →
+    had ≡ now.parsed → IsReadOf (placed_from path lines) round had
+read-of path lines rest round now had has e = record {
+  before = has.before;
+  behind = placed_from has.there rest;
+  parts = has.parts;
+  frames = now.stack;
+  reads = has.reads ∙ ap (Reads now.stack) (sym e);
+}
+
+pub read-to : (result : Result Unit FileFault) (lines : List Placed) (round now : FirstRound) → IsReadOf lines round now.parsed →
+    IsReadTo result lines round now
+read-to (Ok done) lines round now is = tt
+read-to (Err file_fault.Memory) lines round now is = tt
+read-to (Err (At line kind)) lines round now is = is
+
+-- the first fault of a file that begins with no fold
+pub read-fault : (bytes : List ℕ) (fault : Fault) → (begins_with_fold bytes ≡ true → ⊥) →
+    pass (bottom ∷ []) None nothing_parsed (unfolded bytes) ≡ Err fault → parsed_of bytes ≡ Err fault
+read-fault bytes fault plain e = by_test (begins_with_fold bytes) plain
+  where
+    by_test : (t : Bool) → (t ≡ true → ⊥) → cond t (Err bad_fold) (pass (bottom ∷ []) None nothing_parsed (unfolded bytes)) ≡ Err fault
+    by_test false plain = e
+    by_test true plain = absurd (plain refl)
+
+-- NOTHING that is gathered is a front of every file.
+pub no-front-of : (lines : List Placed) → IsFrontOf lines no_front
+no-front-of lines = record {
+  before = [];
+  behind = lines;
+  parts = refl;
+  frames = bottom ∷ [];
+  had = nothing_parsed;
+  reads = refl;
+  events = refl;
+  checks = refl;
+}
+
+-- what the first round has gathered of a file at its first fault
+pub front-of : (lines : List Placed) (round : FirstRound) (had : ParsedFileSeen) (front : FrontSeen) → IsReadOf lines round had →
+    Reads round.stack round.parsed ≡ Reads (bottom ∷ []) nothing_parsed → front ≡ record { events = had.events; checks = had.checks } →
+    IsFrontOf lines front
+front-of lines round had front is begins e = record {
+  before = is.before;
+  behind = is.behind;
+  parts = is.parts;
+  frames = is.frames;
+  had = had;
+  reads = ap (λ (read : LinesRead). read_behind read is.before) (sym begins) ∙ is.reads;
+  events = ap (λ (f : FrontSeen). f.events) e;
+  checks = ap (λ (f : FrontSeen). f.checks) e;
+}
