@@ -14,6 +14,7 @@ use Rattle.ics_zone.specs.Observances.{ObservanceSaid}
 use Rattle.ics_zone.specs.ZoneOffsets.{natural, IsOnset, IsInForce, IsBeforeAll, IsOffset, zone_offset, IsNotLater}
 use Rattle.ics_zone.specs.Moments.{shown, IsFirstTime}
 use Rattle.ics_zone.specs.Inner.ZoneOnsets.{HaveOffsets, IsKnown, IsLatest, IsLatestOf, IsFirstOffset, IsNextPast, IsClear, IsJump, IsSteady, IsOverridden}
+use Rattle.ics_zone.specs.Inner.ZoneOnsets.{NoneBetween}
 use Rattle.ics_zone.specs.Inner.ZoneBounds.{zone_short}
 use Rattle.ics_zone.specs.Inner.Searches.{natural-is}
 use Rattle.ics_zone.proofs.OnsetLemmas.{offset_found}
@@ -86,6 +87,12 @@ module _ (observances : ZoneObservances) (some : 0 < length observances.said.ite
     before = h f.place at f.observance (slice_get_within zone f.place f.observance f.onset.0) f.onset;
     least = λ i s p g. f.least i s p (slice_get_within zone i p g.0) g;
   })
+
+  -- before all onsets it is one offset, up to where the first may be
+  pub steady_before : (t next from offset : ℤ) → IsLatestOf zone t (length zone) None → NoneBetween zone t next → IsFirstOffset zone offset
+      → IsSteady (zone_offset zone) from next offset
+  steady_before t next from offset late none first u low high =
+      none_is u offset (λ i s p l g. let past = late i s p l g in let not_before = none i s p g past in omega (arith, ints)) first
 
   -- each offset of the zone is one of its observances
   pub offsets_found : (offsets : List ℤ) → HaveOffsets offsets zone → (t : ℤ) → Contains offsets (zone_offset zone t)

@@ -99,12 +99,26 @@ pub(crate) fn latest_within(onsets: &[Onsets], after: Moment, moment: Moment) ->
     latest
 }
 
+/// The first onset of all, which is a listed one.
+pub(crate) fn first_listed(onsets: &[Onsets]) -> Moment {
+    let mut first = Moment::MAX;
+    for one in onsets {
+        if let Some(at) = one.listed.first() {
+            first = first.min(*at);
+        }
+    }
+    first
+}
+
 /// The greatest onset that is not after an instant, by instant and then by place. It is searched for in the seconds before the instant, so many at
 /// first, and further back each time that there is none.
 pub(crate) fn latest_of(onsets: &[Onsets], ago: i64, moment: Moment) -> Option<Latest>
     requires { All IsSound onsets.now }
     ensures { (zone : List ObservanceSaid) → AreOnsetsOfAll zone onsets.now → IsLatestOf zone moment (length zone) result }
 {
+    if moment < first_listed(onsets) {
+        return latest_of_each(onsets, moment);
+    }
     let mut back = ago.max(1);
     let mut after = moment.saturating_sub(back);
     while after > YEARS_BEGIN {

@@ -14,8 +14,8 @@ ghost use Rattle.ics_zone.specs.Inner.Tables.{IsTable};
 use crate::Bounds;
 use crate::clock::EPOCH;
 use crate::latest::{
-    Latest, Steady, clear_after, first_offset, latest_of, latest_within, look_on, next_onset,
-    next_past, overrides,
+    Latest, Steady, clear_after, first_listed, first_offset, latest_of, latest_within, look_on,
+    next_onset, next_past, overrides,
 };
 use crate::onsets::Onsets;
 use crate::table::{next_of, onset_of, table_of};
@@ -245,16 +245,14 @@ impl Observed {
         self.sort_held();
     }
 
-    // Holds the spans from an instant on and up to another, unless no onset is before the first.
+    // Holds the spans from an instant on and up to another.
     fn hold_up_to(&mut self, from: Moment, last: Moment)
         requires from { IsSearched from }
         requires last { IsSearched last }
         requires order { from ≤ℤ last }
         ensures { self.new ≡ self.old }
     {
-        let Some(steady) = self.steady_about(from) else {
-            return;
-        };
+        let steady = self.steady_about(from);
         self.hold_span(clipped(steady, from, last + 1));
         let next = steady.next.max(from);
         if next <= last {
@@ -360,7 +358,7 @@ impl Observed {
         self.hold(near);
     }
 
-    // Holds the span about an instant, if there is one, there is room for it, and no allocation fails.
+    // Holds the span about an instant, if there is room for it and no allocation fails.
     fn hold(&mut self, near: Moment)
         requires { IsSearched near }
         ensures { self.new ≡ self.old }
@@ -368,9 +366,7 @@ impl Observed {
         if self.held.len() >= HELD.max(self.at_once) {
             return;
         }
-        let Some(steady) = self.steady_about(near) else {
-            return;
-        };
+        let steady = self.steady_about(near);
         self.hold_span(steady);
         self.sort_held();
     }
@@ -434,18 +430,24 @@ impl Observed {
         None
     }
 
-    // The span about an instant, from one onset to the next. None if no onset is before the instant.
-    fn steady_about(&self, near: Moment) -> Option<Steady>
+    // The span about an instant, from one onset to the next. Before all onsets it has no beginning.
+    fn steady_about(&self, near: Moment) -> Steady
         requires { IsSearched near }
-        ensures { IfSome result (λ s. IsSteady (zone_offset self.now.said.items) s.from s.next s.offset) }
+        ensures { IsSteady (zone_offset self.now.said.items) result.from result.next result.offset }
     {
-        let latest = self.latest_about(near)?;
         let next = next_onset(&self.onsets, near, near + AHEAD);
-        Some(Steady {
-            from: latest.at,
-            next,
-            offset: latest.offset,
-        })
+        match self.latest_about(near) {
+            Some(latest) => Steady {
+                from: latest.at,
+                next,
+                offset: latest.offset,
+            },
+            None => Steady {
+                from: Moment::MIN,
+                next,
+                offset: first_offset(&self.onsets),
+            },
+        }
     }
 
     // The greatest onset that is not after an instant. It is at the instant, if the span before is held and ends there.
@@ -489,18 +491,25 @@ impl Observed {
         self.offset_of_latest(moment, hint) == offset
     }
 
-    // The span from the greatest onset that is not after an instant up to that instant. None if there is no such onset.
-    fn steady_to(&self, to: Moment) -> Option<Steady>
+    // The span from the greatest onset that is not after an instant up to that instant. If there is no such onset, it has no beginning.
+    fn steady_to(&self, to: Moment) -> Steady
         requires { IsSearched to }
-        ensures to { IfSome result (λ s. to <ℤ s.next) }
-        ensures steady { IfSome result (λ s. IsSteady (zone_offset self.now.said.items) s.from s.next s.offset) }
+        ensures to { to <ℤ result.next }
+        ensures steady { IsSteady (zone_offset self.now.said.items) result.from result.next result.offset }
     {
-        let latest = latest_of(&self.onsets, self.ago, to)?;
-        Some(Steady {
-            from: latest.at,
-            next: to + 1,
-            offset: latest.offset,
-        })
+        let next = to + 1;
+        match latest_of(&self.onsets, self.ago, to) {
+            Some(latest) => Steady {
+                from: latest.at,
+                next,
+                offset: latest.offset,
+            },
+            None => Steady {
+                from: Moment::MIN,
+                next,
+                offset: first_offset(&self.onsets),
+            },
+        }
     }
 
     // A span that reaches from one instant to another. None if an onset is after the first and not after the second.
@@ -512,7 +521,7 @@ impl Observed {
         if let Some(held) = self.held_over(from, to) {
             return Some(held);
         }
-        let steady = self.steady_to(to)?;
+        let steady = self.steady_to(to);
         if steady.from <= from {
             Some(steady)
         } else {
@@ -687,17 +696,6 @@ fn least_ago(onsets: &[Onsets]) -> i64 {
         ago = ago.min(i64::try_from(one.ago).unwrap_or(i64::MAX));
     }
     ago
-}
-
-// The first onset of all, which is a listed one. Before it no span is made.
-fn first_listed(onsets: &[Onsets]) -> Moment {
-    let mut first = Moment::MAX;
-    for one in onsets {
-        if let Some(at) = one.listed.first() {
-            first = first.min(*at);
-        }
-    }
-    first
 }
 
 // How many spans are made for one instant. They are more than usual, if a zone has many offsets: a local that is in no span is looked for

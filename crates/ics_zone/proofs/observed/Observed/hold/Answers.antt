@@ -4,6 +4,3 @@ use Rattle.ics_zone.proofs.observed.Observed.hold.Goals as goal
 
 pub returns-then-len-max : goal.returns-then-len-max
 returns-then-len-max c = grind (arith, common_steps)
-
-pub returns-in_default : goal.returns-in_default
-returns-in_default c = grind (arith, common_steps)
