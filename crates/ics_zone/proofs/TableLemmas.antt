@@ -1,6 +1,6 @@
 -- The onsets of a zone as numbers in order, and the spans between them.
 use Rattle.std.proofs.Common.{◌≡◌, ℕ, ◌+◌, ◌<◌, ◌≤◌, ◌⊎◌, inl, inr, Bool, true, false, cond, sym, ◌∙◌, arith, List, [], ◌∷◌, ◌++◌}
-use Rattle.std.proofs.Common.{length, get_or, Contains, ℤ, pos, ◌+ℤ◌, ◌<ℤ◌, ◌≤ℤ◌}
+use Rattle.std.proofs.Common.{length, get_or, Contains, Some, ℤ, pos, ◌+ℤ◌, ◌-ℤ◌, ◌<ℤ◌, ◌≤ℤ◌}
 use Rattle.std.proofs.Common.{int_cmp, refl}
 use Rattle.std.specs.List.Sorted.{IsPermutation, IsSorted}
 use Rattle.std.proofs.lemmas.Bool.{cases_lt, false≢true}
@@ -11,13 +11,18 @@ use Rattle.std.proofs.lemmas.List.Sorted.{IsPermutation-sym, Contains-permutatio
 use Rattle.std.proofs.lemmas.Option.{slice_get_within}
 use Rattle.ics_zone.specs.declared.zone_observances.ZoneObservances.{ZoneObservances}
 use Rattle.ics_zone.specs.declared.onsets.Onsets.{Onsets}
-use Rattle.ics_zone.specs.Observances.{ObservanceSaid}
-use Rattle.ics_zone.specs.Inner.OnsetSets.{Has}
-use Rattle.ics_zone.specs.Inner.Marks.{IsAsked}
+use Rattle.ics_rule.specs.Kept.{is_kept}
+use Rattle.ics_rule.specs.Next.{IsNextKept}
+use Rattle.ics_rule.specs.PeriodNumbers.{rules_end}
+use Rattle.ics_rule.specs.Recurrence.{Recurrence}
+use Rattle.ics_zone.specs.Observances.{ObservanceSaid, instant_by}
+use Rattle.ics_zone.specs.Inner.Latest.{IsInOrder}
+use Rattle.ics_zone.specs.Inner.OnsetSets.{Has, IsKeptAt, IsShownBy, IsShownTo}
 use Rattle.ics_zone.specs.ZoneOffsets.{IsNotLater, IsOnset, zone_offset}
 use Rattle.ics_zone.specs.Inner.ZoneOnsets.{AreOnsetsOfAll, IsSteady}
-use Rattle.ics_zone.specs.Inner.Tables.{onset_number, IsNumberedBy, AreNumbered, IsTable, IsNextOf}
+use Rattle.ics_zone.specs.Inner.Tables.{onset_number, IsKeptNumber, IsNumberedBy, AreNumbered, IsTable, IsNextOf}
 use Rattle.ics_zone.proofs.Cases.{less_or_not_z}
+use Rattle.ics_zone.proofs.KeptLemmas.{from_kept, to_kept}
 use Rattle.ics_zone.proofs.ListingLemmas.{in_order}
 use Rattle.ics_zone.proofs.ZoneSteps.{observance_here, onsets_here, onsets_at, split}
 use Rattle.ics_zone.proofs.JumpLemmas.{in_force_is}
@@ -28,11 +33,6 @@ number_order s t i j a b h = elim (less_or_not_z s t) [ inl less ↦ inl less | 
 
 one_number : (s t : ℤ) (i j : ℕ) → i < 16_777_216 → j < 16_777_216 → onset_number s i ≡ onset_number t j → (s ≡ t) × (i ≡ j)
 one_number s t i j a b h = (omega (arith, ints), omega (arith, ints))
-
--- the rule is asked too
-pub asked_of : (o : Onsets) (t : ℤ) → Has o t → IsAsked o true t
-asked_of o t (inl listed) = inl listed
-asked_of o t (inr kept) = inr (refl, kept)
 
 -- a number is added, where memory is not refused
 pub pushed : (was now : List ℤ) (n : ℤ) (b : Bool) → now ≡ cond b (was ++ n ∷ []) was → b ≡ true → now ≡ was ++ n ∷ []
@@ -54,16 +54,97 @@ module _ (o : Onsets) (place : ℕ) (from at : ℤ) {n : ℤ} (was now : List �
         | inr here ↦ inr (record { at = at; onset = onset; late = late; early = early; is = sym here ∙ number })
       ]
 
-  pub complete_more : (next : ℤ) → ((t : ℤ) → Has o t → at <ℤ t → next ≤ℤ t)
-      → ((t : ℤ) → Has o t → from ≤ℤ t → t <ℤ at → Contains was (onset_number t place))
-      → (t : ℤ) → Has o t → from ≤ℤ t → t <ℤ next → Contains now (onset_number t place)
-  complete_more next none old t h late early = elim (less_or_not_z t at) [
-    | inl before ↦ stay_one (onset_number t place) (old t h late before)
-    | inr not_before ↦ elim (less_or_not_z at t) [
-      | inl after ↦ absurd (let low = none t h after in omega (arith, ints))
-      | inr same ↦ (let here : t ≡ at = omega (arith, ints) in rw (is, here, ← number) (Contains-push was n))
+  -- the same of the listed onsets up to a place
+  pub complete_at : (listed : List ℤ) (k : ℕ) → at ≡ get_or listed k (pos 0) → k < length listed
+      → ((j : ℕ) (d : ℤ) → j < k → from ≤ℤ get_or listed j d → Contains was (onset_number (get_or listed j d) place))
+      → (j : ℕ) (d : ℤ) → j < k + 1 → from ≤ℤ get_or listed j d → Contains now (onset_number (get_or listed j d) place)
+  complete_at listed k here inside old j d less late = elim (cases_lt j k) [
+    | inl before ↦ stay_one (onset_number (get_or listed j d) place) (old j d before late)
+    | inr after ↦ (
+        let same : j ≡ k = omega (arith, less, after) in
+        let there : get_or listed j d ≡ at = rw same (get_or_default listed k d (pos 0) inside ∙ sym here) in
+        rw (is, there, ← number) (Contains-push was n))
+  ]
+
+-- where the numbers of the listed onsets up to a place are there, and none after it is early enough, those of all are there
+pub listed_to : (place : ℕ) (from last : ℤ) (listed list : List ℤ) → IsInOrder listed → (k : ℕ)
+    → (k < length listed → last <ℤ get_or listed k (pos 0))
+    → ((j : ℕ) (d : ℤ) → j < k → from ≤ℤ get_or listed j d → Contains list (onset_number (get_or listed j d) place))
+    → (t : ℤ) → Contains listed t → from ≤ℤ t → t ≤ℤ last → Contains list (onset_number t place)
+listed_to place from last listed list order k past before t there late early =
+    let is : get_or listed there.0 (pos 0) ≡ t = get_or_default listed there.0 (pos 0) t there.1 ∙ there.2 in
+    elim (cases_lt there.0 k) [
+      | inl low ↦ rw is at (before there.0 (pos 0) low (rw is late))
+      | inr high ↦ absurd (
+          let inside : k < length listed = omega (arith, high, there.1) in
+          let up = order k there.0 (pos 0) high there.1 in
+          let out = past inside in omega (arith, ints, is))
+    ]
+
+-- a kept local more is listed
+module _ (r : Recurrence) (offset : ℤ) (place from end at local : ℕ) (was now : List ℤ) (is : now ≡ was ++ onset_number (instant_by offset local) place ∷ [])
+    (next : IsNextKept r at end local) where
+  pub kept_known : (before : List ℤ) → from ≤ at → ((n : ℤ) → Contains was n → Contains before n ⊎ IsKeptNumber r offset place from end n)
+      → (n : ℤ) → Contains now n → Contains before n ⊎ IsKeptNumber r offset place from end n
+  kept_known before ahead old n h =
+      let there : Contains (was ++ onset_number (instant_by offset local) place ∷ []) n = rw is at h in
+      elim (Contains-push_cases was (onset_number (instant_by offset local) place) n there) [
+        | inl there ↦ old n there
+        | inr here ↦ inr (record {
+          local = local;
+          kept = next.kept;
+          late = omega (arith, ahead, next.from_place);
+          early = next.in_bound;
+          is = sym here;
+        })
+      ]
+
+  pub kept_complete : ((k : ℕ) → is_kept r k ≡ true → from ≤ k → k < at → Contains was (onset_number (instant_by offset k) place))
+      → (k : ℕ) → is_kept r k ≡ true → from ≤ k → k < local + 1 → Contains now (onset_number (instant_by offset k) place)
+  kept_complete old k kept late early = elim (cases_lt k at) [
+    | inl before ↦ rw is (Contains-append_left was (onset_number (instant_by offset local) place ∷ []) (onset_number (instant_by offset k) place)
+        (old k kept late before))
+    | inr after ↦ elim (cases_lt k local) [
+      | inl less ↦ absurd (false≢true (sym (next.least k after less) ∙ kept))
+      | inr more ↦ (
+          let same : k ≡ local = omega (arith, early, more) in
+          rw (is, same) (Contains-push was (onset_number (instant_by offset local) place)))
     ]
   ]
+
+-- the locals that the rule of an observance keeps are those of its onsets by the rule
+module _ (o : Onsets) {r : Recurrence} (rule : o.rule ≡ Some r) (place : ℕ) (from last : ℤ) {begin end : ℕ}
+    (past : IsShownBy o.offset_from (from -ℤ pos 1) begin) (shown : IsShownTo o.offset_from o.until last end) where
+  pub number_known : (n : ℤ) → IsKeptNumber r o.offset_from place begin end n → IsNumberedBy o place from last n
+  number_known n k =
+      let inside : k.local < rules_end = omega (arith, k.early, shown.bound) in
+      let late = past.later k.local k.late inside in
+      record {
+        at = instant_by o.offset_from k.local;
+        onset = inr (to_kept o rule (instant_by o.offset_from k.local) (record {
+          local = k.local;
+          early = inside;
+          kept = k.kept;
+          is = refl;
+          by_end = shown.by_until k.local k.early;
+        }));
+        late = omega (arith, ints, late);
+        early = shown.shown k.local k.early;
+        is = k.is;
+      }
+
+  pub number_there : (list : List ℤ) → ((k : ℕ) → is_kept r k ≡ true → begin ≤ k → k < end → Contains list (onset_number (instant_by o.offset_from k) place))
+      → (t : ℤ) → IsKeptAt o t → from ≤ℤ t → t ≤ℤ last → Contains list (onset_number t place)
+  number_there list all t kept late early =
+      let k = from_kept o rule t kept in
+      let is = k.is in
+      rw is (all k.local k.kept (elim (cases_lt k.local begin) [
+        | inl before ↦ absurd (let out = past.shown k.local before in omega (arith, ints))
+        | inr after ↦ after
+      ]) (elim (cases_lt k.local end) [
+        | inl before ↦ before
+        | inr after ↦ absurd (let by_end = k.by_end in let out = shown.later k.local after k.early (rw is at by_end) in omega (arith, ints))
+      ]))
 
 -- the onsets of one more observance are listed
 pub numbered_more : {zone : List ObservanceSaid} {list : List Onsets} {k : ℕ} {o : Onsets} {from last : ℤ} {was now : List ℤ}

@@ -36,8 +36,8 @@ pub(crate) struct Onsets {
     pub quiet_to: Moment,
 }
 
-// How many instants of a list are not after a given one.
-fn passed(listed: &[Moment], moment: Moment) -> usize
+/// How many instants of a list are not after a given one.
+pub(crate) fn passed(listed: &[Moment], moment: Moment) -> usize
     requires { IsInOrder listed.now }
     ensures { IsPassed listed.now moment result }
 {
@@ -208,8 +208,8 @@ impl Onsets {
         }
     }
 
-    // How many locals before the end of the rules the clock before the onsets shows up to an instant and up to an UNTIL in UTC.
-    fn shown_to(&self, moment: Moment) -> u64
+    /// How many locals before the end of the rules the clock before the onsets shows up to an instant and up to an UNTIL in UTC.
+    pub fn shown_to(&self, moment: Moment) -> u64
         requires { IsSound self.now }
         ensures { IsShownTo self.now.offset_from self.now.until moment result }
     {

@@ -1,8 +1,10 @@
 -- The onsets of a zone as numbers in order.
-use Rattle.std.specs.Prelude.{◌≡◌, ℕ, ◌+◌, ◌<◌, ◌≤◌, List, length, slice_index_or, ℤ, pos, ◌+ℤ◌, ◌*ℤ◌, ◌≤ℤ◌}
+use Rattle.std.specs.Prelude.{◌≡◌, true, ℕ, ◌+◌, ◌<◌, ◌≤◌, List, length, slice_index_or, ℤ, pos, ◌+ℤ◌, ◌*ℤ◌, ◌≤ℤ◌}
 use Rattle.std.specs.List.{Contains}
+use Rattle.ics_rule.specs.Kept.{is_kept}
+use Rattle.ics_rule.specs.Recurrence.{Recurrence}
 use Rattle.ics_zone.specs.declared.onsets.Onsets.{Onsets}
-use Rattle.ics_zone.specs.Observances.{ObservanceSaid}
+use Rattle.ics_zone.specs.Observances.{ObservanceSaid, instant_by}
 use Rattle.ics_zone.specs.Inner.Latest.{IsInOrder}
 use Rattle.ics_zone.specs.Inner.OnsetSets.{Has}
 use Rattle.ics_zone.specs.ZoneOffsets.{IsOnset}
@@ -18,6 +20,14 @@ pub record IsNumberedBy (onsets : Onsets) (place : ℕ) (from last n : ℤ) : Ty
   pub late : from ≤ℤ at
   pub early : at ≤ℤ last
   pub is : n ≡ onset_number at place
+
+-- n is the number of an onset at a local that a rule keeps, from one local on and before another
+pub record IsKeptNumber (r : Recurrence) (offset : ℤ) (place from end : ℕ) (n : ℤ) : Type 0 where
+  pub local : ℕ
+  pub kept : is_kept r local ≡ true
+  pub late : from ≤ local
+  pub early : local < end
+  pub is : n ≡ onset_number (instant_by offset local) place
 
 -- n is the number of an onset of a zone, from one instant on and not after another
 pub record IsNumbered (zone : List ObservanceSaid) (from last n : ℤ) : Type 0 where

@@ -6,10 +6,10 @@ use Rattle.ics_zone.proofs.table.table_of.Goals as goal
 pub loop-place-preserved : goal.loop-place-preserved
 loop-place-preserved c =
     let before = rw (to_z-of_z w64 c.args.from c.ranges.from, to_z-of_z w64 c.args.last c.ranges.last) at c.loop-place.invariant in
-    let known = simp (to_z-of_z, c.ranges.from, c.ranges.last) at (c.list_onsets.ensures.known c.if-not-list_onsets.false) in
-    let complete = simp (to_z-of_z, c.ranges.from, c.ranges.last) at (c.list_onsets.ensures.complete c.if-not-list_onsets.false) in
+    let known = simp (to_z-of_z, c.ranges.from, c.ranges.last) at (c.add_onsets.ensures.known c.if-not-add_onsets.false) in
+    let complete = simp (to_z-of_z, c.ranges.from, c.ranges.last) at (c.add_onsets.ensures.complete c.if-not-add_onsets.false) in
     rw (to_z-of_z w64 c.args.from c.ranges.from, to_z-of_z w64 c.args.last c.ranges.last) (λ zone all.
-    numbered_more all c.loop-place-test.true c.index-onsets-place.is known (c.list_onsets.ensures.stay c.if-not-list_onsets.false) complete (before zone all))
+    numbered_more all c.loop-place-test.true c.index-onsets-place.is known (c.add_onsets.ensures.stay c.if-not-add_onsets.false) complete (before zone all))
 
 pub returns : goal.returns
 returns c =
