@@ -1,10 +1,9 @@
 -- The offset in force, and the instant at which a clock jumps over a local.
-use Rattle.std.proofs.Common.{◌≡◌, ◌≢◌, ℕ, zero, suc, ◌<◌, inl, inr, Bool, true, false, cond, refl, sym, ◌∙◌, arith, List, [], ◌∷◌, ◌++◌, length, Some, None}
-use Rattle.std.proofs.Common.{All, Contains, ℤ, pos, ◌+ℤ◌, ◌-ℤ◌, ◌<ℤ◌, ◌≤ℤ◌, ap}
+use Rattle.std.proofs.Common.{◌≡◌, ◌≢◌, ℕ, zero, suc, ◌<◌, inl, inr, Bool, cond, refl, sym, ◌∙◌, arith, List, [], ◌∷◌, ◌++◌, length, Some, None}
+use Rattle.std.proofs.Common.{Contains, ℤ, pos, ◌+ℤ◌, ◌-ℤ◌, ◌<ℤ◌, ◌≤ℤ◌, ap}
 use Rattle.std.proofs.lemmas.Int.{ints}
 use Rattle.std.specs.List.Sorted.{IsPermutation}
 use Rattle.std.proofs.lemmas.List.Sorted.{All-permutation}
-use Rattle.std.proofs.lemmas.List.Elements.{All-push}
 use Rattle.std.proofs.lemmas.Option.{slice_get_within}
 use Rattle.ics_zone.specs.declared.latest.Latest.{Latest}
 use Rattle.ics_zone.specs.declared.latest.Steady.{Steady}
@@ -14,11 +13,12 @@ use Rattle.ics_zone.specs.Observances.{ObservanceSaid}
 use Rattle.ics_zone.specs.ZoneOffsets.{natural, IsOnset, IsInForce, IsBeforeAll, IsOffset, zone_offset, IsNotLater}
 use Rattle.ics_zone.specs.Moments.{shown, IsFirstTime}
 use Rattle.ics_zone.specs.Inner.ZoneOnsets.{HaveOffsets, IsKnown, IsLatest, IsLatestOf, IsFirstOffset, IsNextPast, IsClear, IsJump, IsSteady, IsOverridden}
-use Rattle.ics_zone.specs.Inner.ZoneOnsets.{NoneBetween}
+use Rattle.ics_zone.specs.Inner.ZoneOnsets.{AreSteady, NoneBetween}
 use Rattle.ics_zone.specs.Inner.ZoneBounds.{zone_short}
 use Rattle.ics_zone.specs.Inner.Searches.{natural-is}
 use Rattle.ics_zone.proofs.OnsetLemmas.{offset_found}
 use Rattle.ics_zone.proofs.Cases.{less_or_not_z}
+use Rattle.ics_zone.proofs.WalkLemmas.{steady_pushed}
 
 -- two onsets neither of which is later are one
 one_onset : {i j : ℕ} {s t : ℤ} {p q : ObservanceSaid} (zone : List ObservanceSaid) → IsOnset zone i s p → IsOnset zone j t q
@@ -175,7 +175,7 @@ natural_less end at next low less = grind (arith, ints, natural-is)
 
 -- the spans that are held may be others
 known_of : {zone : List ObservanceSaid} {onsets : List Onsets} {offsets : List ℤ} {was now : List Steady} → IsKnown zone onsets offsets was
-    → All (λ (s : Steady). IsSteady (zone_offset zone) s.from s.next s.offset) now → IsKnown zone onsets offsets now
+    → AreSteady (zone_offset zone) now → IsKnown zone onsets offsets now
 known_of known spans = record { some = known.some; asked = known.asked; all_offsets = known.all_offsets; spans = spans }
 
 -- the same spans are held in another order
@@ -187,6 +187,4 @@ held_moved {zone = zone} {was = was} {now = now} moved known =
 -- a span more is held, or none where memory is refused
 pub held_more : {zone : List ObservanceSaid} {onsets : List Onsets} {offsets : List ℤ} {was now : List Steady} (s : Steady) (b : Bool)
     → now ≡ cond b (was ++ s ∷ []) was → IsKnown zone onsets offsets was → IsSteady (zone_offset zone) s.from s.next s.offset → IsKnown zone onsets offsets now
-held_more {zone = zone} {was = was} s true is known steady =
-    rw is (known_of known (All-push (λ (s : Steady). IsSteady (zone_offset zone) s.from s.next s.offset) was s known.spans steady))
-held_more s false is known steady = rw is known
+held_more {zone = zone} {was = was} s b is known steady = known_of known (steady_pushed {offset = zone_offset zone} was s b is known.spans steady)

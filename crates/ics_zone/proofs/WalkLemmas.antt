@@ -1,10 +1,20 @@
 -- What spans in their order tell of the instant of a local.
 use Rattle.std.proofs.Common.{◌≡◌, ◌≢◌, ◌⊎◌, inl, inr, arith, refl, sym, subst, Option, Some, None, MatchOption, IfSome, ℤ, pos, ◌+ℤ◌, ◌-ℤ◌, ◌<ℤ◌, ◌≤ℤ◌}
+use Rattle.std.proofs.Common.{Bool, true, false, cond, List, [], ◌∷◌, ◌++◌}
 use Rattle.std.proofs.lemmas.Int.{ints}
+use Rattle.std.proofs.lemmas.List.Elements.{All-push}
+use Rattle.ics_zone.specs.declared.latest.Steady.{Steady}
 use Rattle.ics_zone.specs.declared.walk.Walk.{Walk}
 use Rattle.ics_zone.specs.Moments.{shown, IsFirstTime, IsInGap}
-use Rattle.ics_zone.specs.Inner.ZoneOnsets.{IsSteady}
+use Rattle.ics_zone.specs.Inner.ZoneOnsets.{AreSteady, IsSteady}
 use Rattle.ics_zone.specs.Inner.Walks.{IsShort, IsGapRead, IsWalk}
+
+-- a span more, or none where memory is refused
+pub steady_pushed : {offset : ℤ → ℤ} (was : List Steady) {now : List Steady} (s : Steady) (b : Bool) → now ≡ cond b (was ++ s ∷ []) was
+    → AreSteady offset was → IsSteady offset s.from s.next s.offset → AreSteady offset now
+steady_pushed {offset = offset} was s true is spans steady =
+    rw is (All-push (λ (s : Steady). IsSteady offset s.from s.next s.offset) was s spans steady)
+steady_pushed was s false is spans steady = rw is spans
 
 pub walk_begins : {offset : ℤ → ℤ} {local low before : ℤ} → IsShort offset → low ≡ local -ℤ pos 86_400
     → IsWalk offset local (record { low = low; before = before; gap = None })

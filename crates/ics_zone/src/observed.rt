@@ -8,7 +8,7 @@ ghost use Rattle.jiff_core.specs.Calendar.{IsWithin};
 ghost use Rattle.ics_zone.specs.Seconds.{IsDay, IsMoment};
 ghost use Rattle.ics_fields.specs.Locals.{seconds_at};
 ghost use Rattle.ics_zone.specs.Inner.OnsetSets.{IsSearched};
-ghost use Rattle.ics_zone.specs.Inner.ZoneOnsets.{AreOnsetsOfAll, HaveOffsets, IsLatestOf};
+ghost use Rattle.ics_zone.specs.Inner.ZoneOnsets.{AreOnsetsOfAll, AreSteady, HaveOffsets, IsLatestOf};
 ghost use Rattle.ics_zone.specs.Inner.Tables.{IsTable};
 
 use crate::Bounds;
@@ -18,8 +18,8 @@ use crate::latest::{
     next_onset, next_past, overrides,
 };
 use crate::onsets::Onsets;
-use crate::table::{next_of, onset_of, table_of};
-use crate::walk::{Told, gap_at_end, step, walk_to};
+use crate::table::{first_instant, next_of, onset_of, table_of};
+use crate::walk::moment_in;
 use crate::zone_fault::ZoneFault;
 use crate::zone_observances::ZoneObservances;
 use ics_fields::{Local, Moment};
@@ -62,6 +62,9 @@ const FEW: usize = 64;
 const LISTED_OF_EACH: usize = 640;
 
 const LISTED: usize = 1_500_000;
+
+/// How many onsets near one local are listed for each observance of such a zone.
+const NEAR_OF_EACH: usize = 16;
 
 /// How many seconds the onsets are listed for at a time, and how often at most near one instant.
 const BLOCK: i64 = 32 * DAY;
@@ -145,6 +148,11 @@ impl Observed {
         are_same_observances(&self.observances.said, observances)
     }
 
+    // Whether it has so many observances that its onsets are listed.
+    fn has_many(&self) -> bool {
+        self.onsets.len() > FEW
+    }
+
     /// Makes answers near an instant faster and changes none: the zone answers at every instant, before this call and after it. It holds
     /// spans from a day before the instant on if there is room for them and no allocation fails. The result is always `Ok`.
     pub fn reach(&mut self, to: Moment) -> Result<(), AllocError>
@@ -189,6 +197,9 @@ impl Observed {
     {
         let seconds = seconds_of(local);
         if let Some(moment) = self.held_moment(seconds) {
+            return moment;
+        }
+        if let Some(moment) = self.near_moment(seconds) {
             return moment;
         }
         match self.first_time(seconds) {
@@ -241,53 +252,93 @@ impl Observed {
             return;
         }
         self.look_about(from);
-        self.hold_up_to(from, last);
-        self.sort_held();
-    }
-
-    // Holds the spans from an instant on and up to another.
-    fn hold_up_to(&mut self, from: Moment, last: Moment)
-        requires from { IsSearched from }
-        requires last { IsSearched last }
-        requires order { from ≤ℤ last }
-        ensures { self.new ≡ self.old }
-    {
-        let steady = self.steady_about(from);
-        self.hold_span(clipped(steady, from, last + 1));
-        let next = steady.next.max(from);
-        if next <= last {
-            self.hold_listed(next, last);
+        match self.spans_between(from, from, last, self.room) {
+            Some(spans) => {
+                self.room = self.room.saturating_sub(spans.len());
+                self.hold_each(&spans);
+                self.sort_held();
+            }
+            None => self.room = 0,
         }
     }
 
-    // Holds the span from each onset, of those from an instant on and not after another.
-    fn hold_listed(&mut self, from: Moment, last: Moment)
-        requires from { IsSearched from }
-        requires last { IsSearched last }
-        requires order { from ≤ℤ last }
+    // Holds spans, as far as no allocation fails.
+    fn hold_each(&mut self, spans: &[Steady])
+        requires { AreSteady (zone_offset self.old.said.items) spans.now }
         ensures { self.new ≡ self.old }
     {
-        let alloc = *self.held.allocator();
-        let Some(table) = table_of(alloc, &self.onsets, from, last, self.room) else {
-            self.room = 0;
-            return;
-        };
-        self.room = self.room.saturating_sub(table.len());
-        self.hold_table(&table, last);
+        for k in 0..spans.len() {
+            self.hold_span(spans[k]);
+        }
     }
 
-    // The same, given the table of these onsets.
-    fn hold_table(&mut self, table: &[i64], last: Moment)
+    // The spans from an instant on and up to another, unless their onsets are more than so many or an allocation fails. Onsets are listed from an
+    // instant on that may be earlier: if one is there, the first span begins with it.
+    fn spans_between(
+        &self,
+        from: Moment,
+        near: Moment,
+        last: Moment,
+        most: usize,
+    ) -> Option<Vec<Steady>>
+        requires from { IsSearched from }
+        requires near { IsSearched near }
         requires last { IsSearched last }
-        requires table { (from : ℤ) × IsTable self.old.said.items from last table.now }
-        ensures { self.new ≡ self.old }
+        requires order { from ≤ℤ last }
+        ensures { IfSome result (λ spans. AreSteady (zone_offset self.now.said.items) spans.items) }
+    {
+        let alloc = *self.held.allocator();
+        let table = table_of(alloc, &self.onsets, from, last, most)?;
+        let mut spans = self.first_span(first_instant(&table, last), near, last)?;
+        self.add_spans(&table, last, &mut spans).ok()?;
+        Some(spans)
+    }
+
+    // The span about an instant up to another, as a list. An empty one, if spans begin at that instant or before.
+    fn first_span(&self, begin: Moment, near: Moment, last: Moment) -> Option<Vec<Steady>>
+        requires near { IsSearched near }
+        requires last { IsSearched last }
+        ensures { IfSome result (λ spans. AreSteady (zone_offset self.now.said.items) spans.items) }
+    {
+        let mut spans = Vec::new(*self.held.allocator());
+        if begin > near {
+            let first = self.steady_about(near);
+            spans.push(clipped(first, near, last + 1)).ok()?;
+        }
+        Some(spans)
+    }
+
+    // Adds the span from each onset of a table of those that are not after an instant. The error means that an allocation failed.
+    fn add_spans(
+        &self,
+        table: &[i64],
+        last: Moment,
+        spans: &mut Vec<Steady>,
+    ) -> Result<(), AllocError>
+        requires last { IsSearched last }
+        requires table { (from : ℤ) × IsTable self.now.said.items from last table.now }
+        requires spans { AreSteady (zone_offset self.now.said.items) spans.old.items }
+        ensures { AreSteady (zone_offset self.now.said.items) spans.new.items }
     {
         for k in 0..table.len() {
             let span = self.span_from(table, k, last);
             if span.from < span.next {
-                self.hold_span(span);
+                spans.push(span)?;
             }
         }
+        Ok(())
+    }
+
+    // The spans from a day before one local to a day after another, given by their seconds.
+    fn spans_about(&self, first: i64, last: i64, most: usize) -> Option<Vec<Steady>>
+        ensures { IfSome result (λ spans. AreSteady (zone_offset self.now.said.items) spans.items) }
+    {
+        let near = first.clamp(FIRST_HELD, LAST_HELD) - DAY;
+        let last = last.clamp(FIRST_HELD, LAST_HELD) + DAY;
+        if near > last {
+            return None;
+        }
+        self.spans_between(near - DAY, near, last, most)
     }
 
     // The span from an onset of a table of those that are not after an instant: to the next, or to the end of the table.
@@ -415,19 +466,20 @@ impl Observed {
         requires bound { IsMoment seconds }
         ensures { IfSome result (IsMomentOf self.now.said.items seconds) }
     {
-        let mut walk = walk_to(seconds);
-        let begun = self.held.partition_point(|span| span.from <= walk.low);
-        for k in begun.saturating_sub(1)..self.held.len() {
-            match step(seconds, &walk, &self.held[k]) {
-                Told::Shows(moment) => return Some(moment),
-                Told::Out => return None,
-                Told::On(next) => walk = next,
-            }
-            if let Some(moment) = gap_at_end(seconds, &walk) {
-                return Some(moment);
-            }
+        moment_in(&self.held, seconds)
+    }
+
+    // The same by spans that are made for it and not held, in a zone of many observances. None if their onsets are too many or an allocation fails.
+    fn near_moment(&self, seconds: i64) -> Option<Moment>
+        requires bound { IsMoment seconds }
+        ensures { IfSome result (IsMomentOf self.now.said.items seconds) }
+    {
+        if !self.has_many() {
+            return None;
         }
-        None
+        let most = self.onsets.len().saturating_mul(NEAR_OF_EACH);
+        let spans = self.spans_about(seconds, seconds, most)?;
+        moment_in(&spans, seconds)
     }
 
     // The span about an instant, from one onset to the next. Before all onsets it has no beginning.

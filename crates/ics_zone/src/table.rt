@@ -51,6 +51,14 @@ pub(crate) fn next_of(table: &[i64], k: usize, last: Moment) -> Moment
     }
 }
 
+/// The instant of the first number of a table, or the instant after the last if there is none.
+pub(crate) fn first_instant(table: &[i64], last: Moment) -> Moment {
+    match table.first() {
+        Some(number) => onset_of(*number).0,
+        None => last.saturating_add(1),
+    }
+}
+
 // Adds the number of an onset to a list of so many numbers at most. Whether it has room for it.
 fn add_onset(at: Moment, place: usize, most: usize, list: &mut Vec<i64>) -> bool
     requires at { IsSearched at }

@@ -1,8 +1,8 @@
 //! Walking spans with one offset each, in their order, for the instant that a local means.
 ghost use Rattle.std.specs.Prelude.{◌≡◌, ℤ, pos, ◌-ℤ◌, ◌<ℤ◌, ◌≤ℤ◌, MatchOption, IfSome};
 ghost use Rattle.ics_zone.specs.Seconds.{IsMoment};
-ghost use Rattle.ics_zone.specs.Moments.{IsInGap};
-ghost use Rattle.ics_zone.specs.Inner.ZoneOnsets.{IsSteady};
+ghost use Rattle.ics_zone.specs.Moments.{IsInGap, IsMomentBy};
+ghost use Rattle.ics_zone.specs.Inner.ZoneOnsets.{AreSteady, IsSteady};
 ghost use Rattle.ics_zone.specs.Inner.Walks.{IsShort, IsWalk, IsTold, IsGapRead};
 
 use crate::latest::Steady;
@@ -88,4 +88,25 @@ pub(crate) fn gap_at_end(seconds: i64, walk: &Walk) -> Option<Moment>
     } else {
         None
     }
+}
+
+/// The instant that a local means, given by its seconds, if these spans tell it in their order.
+pub(crate) fn moment_in(spans: &[Steady], seconds: i64) -> Option<Moment>
+    requires { IsMoment seconds }
+    ensures { (offset : ℤ → ℤ) → IsShort offset → AreSteady offset spans.now → IfSome result (IsMomentBy offset seconds) }
+{
+    let mut walk = walk_to(seconds);
+    let begun = spans.partition_point(|span| span.from <= walk.low);
+    for k in begun.saturating_sub(1)..spans.len() {
+        let span = &spans[k];
+        match step(seconds, &walk, span) {
+            Told::Shows(moment) => return Some(moment),
+            Told::Out => return None,
+            Told::On(next) => walk = next,
+        }
+        if let Some(moment) = gap_at_end(seconds, &walk) {
+            return Some(moment);
+        }
+    }
+    None
 }

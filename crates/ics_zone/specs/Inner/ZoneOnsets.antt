@@ -27,12 +27,16 @@ HaveOffsets offsets zone = (i : ℕ) (p : ObservanceSaid) → slice_get zone i �
 abbrev pub IsSteady : (ℤ → ℤ) → ℤ → ℤ → ℤ → Type 0
 IsSteady offset from next value = (t : ℤ) → from ≤ℤ t → t <ℤ next → value ≡ offset t
 
+-- the same of each span of a list
+abbrev pub AreSteady : (ℤ → ℤ) → List Steady → Type 0
+AreSteady offset spans = All (λ (s : Steady). IsSteady offset s.from s.next s.offset) spans
+
 -- what a zone holds: at least one observance, the onsets of each, every offset that the zone has, and spans with one offset
 pub record IsKnown (zone : List ObservanceSaid) (onsets : List Onsets) (offsets : List ℤ) (held : List Steady) : Type 0 where
   pub some : 0 < length zone
   pub asked : AreOnsetsOfAll zone onsets
   pub all_offsets : (t : ℤ) → Contains offsets (zone_offset zone t)
-  pub spans : All (λ s. IsSteady (zone_offset zone) s.from s.next s.offset) held
+  pub spans : AreSteady (zone_offset zone) held
 
 -- the greatest onset not after t of the first `count` observances
 pub record IsLatest (zone : List ObservanceSaid) (t : ℤ) (count : ℕ) (latest : Latest) : Type 0 where

@@ -1,22 +1,22 @@
-use Rattle.std.proofs.Common.{rules, ◌≡◌, inl, inr, sym, ℤ, SFits, w64}
+use Rattle.std.proofs.Common.{rules, inl, inr, sym, SFits, w64}
 use Rattle.std.proofs.lemmas.Int.{to_z-of_z}
-use Rattle.ics_zone.specs.Moments.{IsMomentOf, zone_moment}
-use Rattle.ics_zone.specs.ZoneOffsets.{zone_offset}
-use Rattle.ics_zone.specs.declared.zone_observances.ZoneObservances.{ZoneObservances}
-use Rattle.ics_zone.specs.Inner.ZoneBounds.{zone_short}
-use Rattle.ics_zone.proofs.MomentLemmas.{moment_unique, moment_found}
+use Rattle.ics_zone.specs.Moments.{IsMomentOf}
+use Rattle.ics_zone.proofs.MomentLemmas.{is_found}
 use Rattle.ics_zone.proofs.observed.Observed.moment.Goals as goal
-
--- what a moment is, it is as found
-is_found : (zone : ZoneObservances) (local t : ℤ) → IsMomentOf zone.said.items local t → t ≡ zone_moment zone.said.items local
-is_found zone local t h = moment_unique (zone_offset zone.said.items) local t (zone_moment zone.said.items local) h
-    (moment_found (zone_offset zone.said.items) (zone_short zone) local)
 
 pub returns-in-Some : goal.returns-in-Some
 returns-in-Some c =
     let fits : SFits w64 c.seconds_of-seconds.result = search rules in
     let is : IsMomentOf c.args.self.now.said.items c.seconds_of-seconds.result c.in-Some.moment = simp to_z-of_z at c.in-Some.ensures in
     rw (to_z-of_z w64 c.in-Some.moment (search rules), sym c.seconds_of-seconds.ensures)
+    (record { means = is; value = is_found c.args.self.now c.seconds_of-seconds.result _ is })
+
+pub returns-in-Some-near_moment : goal.returns-in-Some-near_moment
+returns-in-Some-near_moment c =
+    let fits : SFits w64 c.seconds_of-seconds.result = search rules in
+    let is : IsMomentOf c.args.self.now.said.items c.seconds_of-seconds.result c.in-Some-near_moment.moment =
+    simp to_z-of_z at c.in-Some-near_moment.ensures in
+    rw (to_z-of_z w64 c.in-Some-near_moment.moment (search rules), sym c.seconds_of-seconds.ensures)
     (record { means = is; value = is_found c.args.self.now c.seconds_of-seconds.result _ is })
 
 pub returns-in-Some-first_time : goal.returns-in-Some-first_time

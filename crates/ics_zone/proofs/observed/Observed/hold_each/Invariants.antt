@@ -1,5 +1,5 @@
 use Rattle.std.proofs.Common.{◌≡◌}
-use Rattle.ics_zone.proofs.observed.Observed.hold_table.Given as goal
+use Rattle.ics_zone.proofs.observed.Observed.hold_each.Given as goal
 
 abbrev pub invariant-loop-k : goal.invariant-loop-k
 invariant-loop-k l = l.self ≡ l.fn.self
