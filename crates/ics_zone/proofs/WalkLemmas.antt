@@ -3,9 +3,11 @@ use Rattle.std.proofs.Common.{◌≡◌, ◌≢◌, ◌⊎◌, inl, inr, arith, 
 use Rattle.std.proofs.Common.{Bool, true, false, cond, List, [], ◌∷◌, ◌++◌}
 use Rattle.std.proofs.lemmas.Int.{ints}
 use Rattle.std.proofs.lemmas.List.Elements.{All-push}
+use Rattle.ics_zone.specs.declared.answers.Answer.{Answer}
 use Rattle.ics_zone.specs.declared.latest.Steady.{Steady}
 use Rattle.ics_zone.specs.declared.walk.Walk.{Walk}
-use Rattle.ics_zone.specs.Moments.{shown, IsFirstTime, IsInGap}
+use Rattle.ics_zone.specs.Moments.{shown, IsFirstTime, IsInGap, IsMomentBy}
+use Rattle.ics_zone.specs.Inner.Answers.{AreAnswersBy}
 use Rattle.ics_zone.specs.Inner.ZoneOnsets.{AreSteady, IsSteady}
 use Rattle.ics_zone.specs.Inner.Walks.{IsShort, IsGapRead, IsWalk}
 
@@ -15,6 +17,13 @@ pub steady_pushed : {offset : ℤ → ℤ} (was : List Steady) {now : List Stead
 steady_pushed {offset = offset} was s true is spans steady =
     rw is (All-push (λ (s : Steady). IsSteady offset s.from s.next s.offset) was s spans steady)
 steady_pushed was s false is spans steady = rw is spans
+
+-- an answer more, or none where memory is refused
+pub answer_pushed : {offset : ℤ → ℤ} (was : List Answer) {now : List Answer} (a : Answer) (b : Bool) → now ≡ cond b (was ++ a ∷ []) was
+    → AreAnswersBy offset was → IsMomentBy offset a.seconds a.moment → AreAnswersBy offset now
+answer_pushed {offset = offset} was a true is answers right =
+    rw is (All-push (λ (a : Answer). IsMomentBy offset a.seconds a.moment) was a answers right)
+answer_pushed was a false is answers right = rw is answers
 
 pub walk_begins : {offset : ℤ → ℤ} {local low before : ℤ} → IsShort offset → low ≡ local -ℤ pos 86_400
     → IsWalk offset local (record { low = low; before = before; gap = None })

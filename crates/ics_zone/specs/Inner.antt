@@ -9,5 +9,6 @@ pub mod OnsetSets
 pub mod ZoneOnsets
 pub mod Tables
 pub mod Walks
+pub mod Answers
 pub mod Hours
 pub mod Marks

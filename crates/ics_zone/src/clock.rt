@@ -1,16 +1,31 @@
 //! Locals as numbers, and the instants at which a clock shows them.
-ghost use Rattle.std.specs.Prelude.{◌≡◌, pos, ◌≤◌, ◌<◌, ◌^◌, ◌+ℤ◌, ◌≤ℤ◌};
+ghost use Rattle.std.specs.Prelude.{◌≡◌, true, pos, ◌≤◌, ◌<◌, ◌^◌, ◌+ℤ◌, ◌≤ℤ◌};
 ghost use Rattle.jiff_core.specs.Calendar.{IsWithin};
 ghost use Rattle.ics_zone.specs.Observances.{epoch, instant_by};
+ghost use Rattle.ics_zone.specs.Seconds.{IsMoment};
 ghost use Rattle.ics_zone.specs.Inner.OnsetSets.{IsSearched, IsShownBy};
 
 use ics_fields::Moment;
+
+const DAY: i64 = 86_400;
 
 /// The seconds from 0000-01-01 to 1970-01-01.
 pub(crate) const EPOCH: i64 = 62_167_219_200;
 
 /// 9801-01-01T00:00:00, the end of the rules.
 pub(crate) const RULES_END: i64 = 309_289_708_800;
+
+/// The instants about which spans are held: those of the years 0000 to 9950, with two days more on either side.
+pub(crate) const FIRST_HELD: Moment = -EPOCH - 2 * DAY;
+
+pub(crate) const LAST_HELD: Moment = 251_856_172_799;
+
+/// Whether a local, given by its seconds, is one that a zone may be asked for.
+pub(crate) fn is_moment(seconds: i64) -> bool
+    ensures { result ≡ true → IsMoment seconds }
+{
+    FIRST_HELD <= seconds && seconds <= LAST_HELD
+}
 
 // The instant at which a clock with this offset shows the local with number n.
 pub(crate) fn instant(offset: i32, n: u64) -> Moment

@@ -1,6 +1,7 @@
 //! Zones: an offset at each instant, and an instant for each local.
 #![tactic(auto)]
 
+mod answers;
 mod bounds;
 mod clear;
 mod clock;

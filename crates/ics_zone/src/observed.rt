@@ -6,13 +6,15 @@ ghost use Rattle.std.specs.List.{All, list_any};
 ghost use Rattle.ics_zone.specs.Observances.{has_finer_rule, IsObservance};
 ghost use Rattle.jiff_core.specs.Calendar.{IsWithin};
 ghost use Rattle.ics_zone.specs.Seconds.{IsDay, IsMoment};
+ghost use Rattle.ics_zone.specs.Inner.Answers.{AreAnswers};
 ghost use Rattle.ics_fields.specs.Locals.{seconds_at};
 ghost use Rattle.ics_zone.specs.Inner.OnsetSets.{IsSearched};
 ghost use Rattle.ics_zone.specs.Inner.ZoneOnsets.{AreOnsetsOfAll, AreSteady, HaveOffsets, IsLatestOf};
 ghost use Rattle.ics_zone.specs.Inner.Tables.{IsTable};
 
 use crate::Bounds;
-use crate::clock::EPOCH;
+use crate::answers::{Answer, add_answers, group_end};
+use crate::clock::{FIRST_HELD, LAST_HELD, is_moment};
 use crate::latest::{
     Latest, Steady, clear_after, first_listed, first_offset, latest_of, latest_within, look_on,
     next_onset, next_past, overrides,
@@ -31,11 +33,6 @@ const DAY: i64 = 86_400;
 
 /// No offset of an observance is greater.
 const SHORT: i64 = 86_399;
-
-/// The instants about which spans are held: those of the years 0000 to 9950, with two days more on either side.
-const FIRST_HELD: Moment = -EPOCH - 2 * DAY;
-
-const LAST_HELD: Moment = 251_856_172_799;
 
 /// How many seconds after an instant the end of a span is searched for.
 const AHEAD: i64 = 400 * DAY;
@@ -65,6 +62,16 @@ const LISTED: usize = 1_500_000;
 
 /// How many onsets near one local are listed for each observance of such a zone.
 const NEAR_OF_EACH: usize = 16;
+
+/// Where the instants of many locals are found at once, those of so many days are mostly found together.
+const DAYS: u32 = 32;
+
+/// How many onsets are listed at a time then for each observance, and how many in all. They are not held.
+const AT_A_TIME_OF_EACH: usize = 96;
+
+const ASKED_OF_EACH: usize = 4_096;
+
+const ASKED: usize = 16_000_000;
 
 /// How many seconds the onsets are listed for at a time, and how often at most near one instant.
 const BLOCK: i64 = 32 * DAY;
@@ -148,9 +155,50 @@ impl Observed {
         are_same_observances(&self.observances.said, observances)
     }
 
-    // Whether it has so many observances that its onsets are listed.
-    fn has_many(&self) -> bool {
+    /// Whether it has so many observances that its onsets are listed.
+    pub fn has_many(&self) -> bool {
         self.onsets.len() > FEW
+    }
+
+    /// Whether it has, and holds no spans about a local, given by its seconds.
+    pub fn is_slow_at(&self, seconds: i64) -> bool {
+        self.has_many() && is_moment(seconds) && self.held_moment(seconds).is_none()
+    }
+
+    /// The instants of locals, which are given by their seconds in order, if the onsets near them can be listed.
+    pub(crate) fn answers(&self, locals: &[i64]) -> Vec<Answer>
+        ensures { AreAnswers self.now.said.items result.items }
+    {
+        let mut answers = Vec::new(*self.held.allocator());
+        let count = self.onsets.len();
+        let most = count.saturating_mul(AT_A_TIME_OF_EACH).min(LISTED);
+        let mut room = count.saturating_mul(ASKED_OF_EACH).min(ASKED);
+        let mut days = DAYS;
+        let mut k = 0;
+        while k < locals.len() && room > 0 {
+            let end = group_end(locals, k, days);
+            match self.answer_group(&locals[k..end], most, &mut answers) {
+                Some(made) => {
+                    room = room.saturating_sub(made);
+                    k = end;
+                }
+                None if days == 0 => return answers,
+                None => days /= 4,
+            }
+        }
+        answers
+    }
+
+    // Adds the instants of a group of locals, by spans whose onsets are no more than so many. How many spans there are. None if the onsets are more,
+    // or an allocation fails.
+    fn answer_group(&self, locals: &[i64], most: usize, answers: &mut Vec<Answer>) -> Option<usize>
+        requires some { 0 < length locals.now }
+        requires answers { AreAnswers self.now.said.items answers.old.items }
+        ensures { AreAnswers self.now.said.items answers.new.items }
+    {
+        let spans = self.spans_about(locals[0], locals[locals.len() - 1], most)?;
+        add_answers(&spans, locals, answers);
+        Some(spans.len())
     }
 
     /// Makes answers near an instant faster and changes none: the zone answers at every instant, before this call and after it. It holds
@@ -794,8 +842,8 @@ fn offsets_of(alloc: Global, observances: &[Observance]) -> Result<Vec<i32>, All
     Ok(offsets)
 }
 
-// The seconds from 1970-01-01T00:00:00 to a local, each day having 86,400.
-fn seconds_of(local: Local) -> i64
+/// The seconds from 1970-01-01T00:00:00 to a local, each day having 86,400.
+pub(crate) fn seconds_of(local: Local) -> i64
     ensures { result ≡ seconds_at local.day local.second }
 {
     i64::from(local.day) * DAY + i64::from(local.second)

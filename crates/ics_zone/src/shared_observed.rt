@@ -1,16 +1,24 @@
 //! Zones by observances, which files share.
 ghost use Rattle.std.specs.Prelude.{◌≡◌, Ok, IfOk};
+ghost use Rattle.ics_fields.specs.Locals.{seconds_at};
+ghost use Rattle.ics_zone.specs.Moments.{IsMomentOf, zone_moment};
+ghost use Rattle.ics_zone.specs.Seconds.{IsDay};
 
-use crate::observed::Observed;
-use ics_fields::Moment;
+use crate::answers::{Answer, answer_of};
+use crate::observed::{Observed, seconds_of};
+use ics_fields::{Local, Moment};
 use std::alloc::{AllocError, Global};
 use std::marker::Model;
 use std::rc::Rc;
 
-/// A zone by observances, held once for all files that share it. Contracts see the observances.
+/// A zone by observances, held once for all files that share it, with the instants of locals of one file. Contracts see the observances.
 #[derive(Drop)]
 pub(crate) struct SharedObserved {
     zone: Rc<Observed>,
+    /// Locals that will be asked for, given by their seconds.
+    noted: Vec<i64>,
+    /// Locals whose instants are known, in order.
+    answers: Vec<Answer>,
 }
 
 impl Model for SharedObserved {
@@ -18,7 +26,11 @@ impl Model for SharedObserved {
 
     ghost Value = { ZoneObservances };
 
+    ghost use Rattle.ics_zone.specs.Inner.Answers.{AreAnswers};
+
     ghost view = { λ a. a.zone.value };
+
+    ghost invariant = { λ a. AreAnswers a.zone.value.said.items a.answers.items };
 }
 
 impl SharedObserved {
@@ -27,17 +39,24 @@ impl SharedObserved {
         ensures { IfOk result (λ shared. shared ≡ zone) }
     {
         match Rc::new(alloc, zone) {
-            Ok(zone) => Ok(SharedObserved { zone }),
+            Ok(zone) => Ok(SharedObserved {
+                zone,
+                noted: Vec::new(alloc),
+                answers: Vec::new(alloc),
+            }),
             Err(_) => Err(AllocError),
         }
     }
 
-    /// The same zone, in the same memory.
+    /// The same zone, in the same memory. What is known for the file stays with it.
     pub fn share(&self) -> Result<SharedObserved, AllocError>
         ensures { IfOk result (λ shared. shared ≡ self.now) }
     {
+        let alloc = *self.answers.allocator();
         Ok(SharedObserved {
             zone: self.zone.clone()?,
+            noted: Vec::new(alloc),
+            answers: Vec::new(alloc),
         })
     }
 
@@ -56,6 +75,42 @@ impl SharedObserved {
         match Rc::get_mut(&mut self.zone) {
             Some(zone) => zone.reach(to),
             None => Ok(()),
+        }
+    }
+
+    /// Takes note of a local that will be asked for, if that is slow.
+    pub fn note(&mut self, local: Local)
+        ensures { self.new ≡ self.old }
+    {
+        let seconds = seconds_of(local);
+        if self.get().is_slow_at(seconds) {
+            self.noted.push(seconds).ok();
+        }
+    }
+
+    /// Finds the instants of all locals that were noted, so that answers are faster. None changes.
+    pub fn learn(&mut self)
+        ensures { self.new ≡ self.old }
+    {
+        if self.noted.is_empty() {
+            return;
+        }
+        self.noted.sort_unstable();
+        self.noted.dedup();
+        let answers = self.get().answers(&self.noted);
+        self.answers = answers;
+        self.noted.clear();
+    }
+
+    /// The first instant at which the clock shows the local. If there is none, the local read with the offset before the gap.
+    pub fn moment(&self, local: Local) -> Moment
+        requires { IsDay local.day }
+        ensures means { IsMomentOf self.now.said.items (seconds_at local.day local.second) result }
+        ensures value { result ≡ zone_moment self.now.said.items (seconds_at local.day local.second) }
+    {
+        match answer_of(&self.answers, seconds_of(local)) {
+            Some(moment) => moment,
+            None => self.get().moment(local),
         }
     }
 }

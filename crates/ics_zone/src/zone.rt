@@ -114,6 +114,35 @@ impl Zone {
         Ok(Zone { kind })
     }
 
+    /// Whether it has so many observances that locals may be noted.
+    pub fn has_many(&self) -> bool {
+        match &self.kind {
+            ZoneKind::ByObservances(observed) => observed.get().has_many(),
+            ZoneKind::ByJiff(_) => false,
+        }
+    }
+
+    /// Takes note of a local that will be asked for. No answer changes.
+    pub fn note(&mut self, local: Local)
+        ensures { self.new ≡ self.old }
+    {
+        match &mut self.kind {
+            ZoneKind::ByObservances(observed) => observed.note(local),
+            ZoneKind::ByJiff(_) => {}
+        }
+    }
+
+    /// Makes answers for the locals that were noted faster and changes none: the onsets near them are listed once for all. Those for which no memory
+    /// is found are answered as before.
+    pub fn learn(&mut self)
+        ensures { self.new ≡ self.old }
+    {
+        match &mut self.kind {
+            ZoneKind::ByObservances(observed) => observed.learn(),
+            ZoneKind::ByJiff(_) => {}
+        }
+    }
+
     /// Makes answers near an instant faster and changes none: the zone answers at every instant, before this call and after it. A zone of
     /// observances holds the spans about the instant if it is not shared, there is room for them and no allocation fails. The result is
     /// always `Ok`.
@@ -175,7 +204,7 @@ impl Place for Zone {
         ensures value { result ≡ said_moment (zone_said self.now) (seconds_at local.day local.second) }
     {
         match &self.kind {
-            ZoneKind::ByObservances(observed) => observed.get().moment(local),
+            ZoneKind::ByObservances(observed) => observed.moment(local),
             ZoneKind::ByJiff(zone) => zone.moment(local),
         }
     }
