@@ -9,6 +9,8 @@ use ics_values::{Moment, Observance, are_same_observances};
 use ics_zone::Zone;
 use std::alloc::{AllocError, Global};
 
+const DAY: i64 = 86_400;
+
 /// How many time zones are looked for. A folder mostly has but few that differ.
 const MOST: usize = 64;
 
@@ -47,11 +49,16 @@ impl SharedZones {
     pub(crate) fn none(alloc: Global) -> SharedZones {
         SharedZones {
             from: 0,
-            to: 0,
+            to: Moment::MAX,
             most: 0,
             seen: Vec::new(alloc),
             shared: Vec::new(alloc),
         }
+    }
+
+    /// No zone is asked for a later local, but now and then.
+    pub(crate) fn end(&self) -> Moment {
+        self.to.saturating_add(2 * DAY)
     }
 
     /// The time zone with these observances, if it is shared.

@@ -139,7 +139,7 @@ impl UnresolvedFile {
             events,
             checks,
         } = parsed;
-        let table = ZoneTable::sharing(alloc, shared, zones)?;
+        let table = ZoneTable::for_events(alloc, shared, zones, &events)?;
         let wanted = unknown_names(alloc, &table, &checks)?;
         Ok(UnresolvedFile {
             table,

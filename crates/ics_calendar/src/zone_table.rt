@@ -10,8 +10,8 @@ ghost use Rattle.ics_calendar.specs.ZoneTables.{known_by, given_by};
 
 use crate::shared_zones::SharedZones;
 use crate::zone_files::{ZoneFiles, put_first};
-use ics_components::{CalendarZone, Instant, Tzid, ZoneName};
-use ics_values::Moment;
+use ics_components::{CalendarEvent, CalendarZone, Instant, Tzid, ZoneName};
+use ics_values::{Length, Moment, Rdate, Stamp, Time};
 use ics_zone::{Place, Zone};
 use std::alloc::{AllocError, Global};
 use std::collections::{BTreeMap, BTreeSet};
@@ -63,6 +63,104 @@ impl ZoneTable {
             refused: BTreeSet::new(alloc),
             zones: made,
         })
+    }
+
+    /// The same, for these events: zones of many observances take note of the locals that events have in them, and answer for them sooner. No answer
+    /// changes.
+    pub fn for_events(
+        alloc: Global,
+        shared: &mut SharedZones,
+        zones: Vec<CalendarZone>,
+        events: &[CalendarEvent],
+    ) -> Result<ZoneTable, AllocError>
+        requires { All (λ z. IsSoundZone z.observances) zones.items }
+        ensures { IfOk result (λ table. known_by table ≡ known_in zones.items) }
+    {
+        let mut table = ZoneTable::sharing(alloc, shared, zones)?;
+        if table.zones.iter().any(|zone| zone.has_many()) {
+            table.note_each(events, shared.end());
+            table.learn_each();
+        }
+        Ok(table)
+    }
+
+    /// The zones take note of the locals of events, up to an instant as a clock in UTC shows them.
+    fn note_each(&mut self, events: &[CalendarEvent], end: Moment)
+        ensures { known_by self.new ≡ known_by self.old }
+    {
+        for event in events {
+            self.note_event(event, end);
+        }
+    }
+
+    /// The zones take note of the locals of an event.
+    fn note_event(&mut self, event: &CalendarEvent, end: Moment)
+        ensures { known_by self.new ≡ known_by self.old }
+    {
+        let fields = &event.fields;
+        self.note_some(event.calendar, &fields.start, end);
+        self.note_some(event.calendar, &fields.end, end);
+        self.note_some(event.calendar, &fields.recurrence, end);
+        self.note_dates(event.calendar, &fields.rdates.values, end);
+        self.note_dates(event.calendar, &fields.exdates.values, end);
+    }
+
+    /// The zones take note of the locals of RDATEs or EXDATEs.
+    fn note_dates(&mut self, calendar: u64, dates: &[Rdate<Tzid>], end: Moment)
+        ensures { known_by self.new ≡ known_by self.old }
+    {
+        for date in dates {
+            match date {
+                Rdate::At(time) => self.note(calendar, time, end),
+                Rdate::Span(start, Length::Until(finish)) => {
+                    self.note(calendar, start, end);
+                    self.note(calendar, finish, end);
+                }
+                Rdate::Span(start, _) => self.note(calendar, start, end),
+            }
+        }
+    }
+
+    /// The zone takes note of a local, if there is one.
+    fn note_some(&mut self, calendar: u64, time: &Option<Time<Tzid>>, end: Moment)
+        ensures { known_by self.new ≡ known_by self.old }
+    {
+        if let Some(time) = time {
+            self.note(calendar, time, end);
+        }
+    }
+
+    /// The zone that a time names takes note of its local, if that is not later.
+    fn note(&mut self, calendar: u64, time: &Time<Tzid>, end: Moment)
+        ensures { known_by self.new ≡ known_by self.old }
+    {
+        let Stamp::Zoned(local) = time.stamp else {
+            return;
+        };
+        if local.seconds() > end {
+            return;
+        }
+        let Some(name) = &time.zone else {
+            return;
+        };
+        let Ok(name) = name.shared() else {
+            return;
+        };
+        let Some(place) = self.index(&ZoneName { calendar, name }) else {
+            return;
+        };
+        if let Some(zone) = self.zones.get_mut(place as usize) {
+            zone.note(local);
+        }
+    }
+
+    /// The zones answer for the locals that they have noted.
+    fn learn_each(&mut self)
+        ensures { known_by self.new ≡ known_by self.old }
+    {
+        for k in 0..self.zones.len() {
+            self.zones[k].learn();
+        }
     }
 
     /// What is given for a name is taken in, if there is a file for it. Its zone stands behind the others.

@@ -10,7 +10,7 @@ use Rattle.ics_calendar.proofs.unresolved_file.UnresolvedFile.of_parsed.Goals as
 pub invariant_of-result : goal.invariant_of-result
 invariant_of-result c = (
   rw c.in_ok-table.ensures (unresolved-sound _ (subst IsSoundParsed (sym c.parsed.view_is) c.requires)),
-  c.in_ok-wanted.ensures ∙ ap (λ checks. each_once (all_unknown (known_by c.in_ok-table.table).index checks)) c.deref.ensures.value,
+  c.in_ok-wanted.ensures ∙ ap (λ checks. each_once (all_unknown (known_by c.in_ok-table.table).index checks)) c.deref-2.ensures.value,
 )
 
 pub returns : goal.returns
