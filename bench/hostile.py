@@ -139,6 +139,8 @@ ROWS = [
     ('1,200 observances, 4,800 locals', lambda: many(1_200, 4_800), ['2023-12-31', '4d'], 1, 32),
     ('4,800 observances, 19,200 locals', lambda: many(4_800, 19_200), ['2023-12-31', '4d'], 12, 32),
     ('600 daily observances, 2,400 locals', lambda: daily(600, 2_400), ['2024-01-01', '366d'], 4, 32),
+    ('the same, a day of December', lambda: daily(600, 2_400), ['2024-12-30', '1d'], 2, 32),
+    ('1,200 daily observances, 4,800 locals, a day of December', lambda: daily(1_200, 4_800), ['2024-12-30', '1d'], 4, 32),
     ('1,200 yearly observances, 4,800 locals', lambda: yearly(1_200, 4_800), ['2024-01-01', '366d'], 1, 32),
     ('seconds of a day that is skipped', lambda: in_zone(skipped('UNTIL=20240630T235900Z'), '20240701T000000', 'RRULE:FREQ=SECONDLY;COUNT=86400'),
      ['2024-06-30', '4d'], 1, 32),
