@@ -58,10 +58,20 @@ def of_year(count):
     return '20231231T120000', 'RDATE;TZID=odd:' + ','.join(stamps(count, 366 * 86_400 // count))
 
 
+def each_day(count, before):
+    """So many observances with an offset each that begin once a day, behind one offset."""
+    return [part('STANDARD', '2023' + at[4:], before, offset(number), 'RRULE:FREQ=DAILY') for number, at in enumerate(stamps(count, 86_400 // count))]
+
+
 def daily(count, locals_of_year):
     """So many observances with an offset each that begin once a day, and an event at so many locals of a year."""
-    parts = [part('STANDARD', '2023' + at[4:], '+0000', offset(number), 'RRULE:FREQ=DAILY') for number, at in enumerate(stamps(count, 86_400 // count))]
-    return in_zone(parts, *of_year(locals_of_year))
+    return in_zone(each_day(count, '+0000'), *of_year(locals_of_year))
+
+
+def early(count, locals_before):
+    """So many observances with an offset each that begin once a day, and an event that leaves out so many locals before all of them."""
+    at = ['2020' + at[4:] for at in stamps(locals_before, 300 * 86_400 // locals_before)]
+    return in_zone(each_day(count, '-2359'), '20240101T120000', 'EXDATE;TZID=odd:' + ','.join(at))
 
 
 def yearly(count, locals_of_year):
@@ -141,6 +151,7 @@ ROWS = [
     ('600 daily observances, 2,400 locals', lambda: daily(600, 2_400), ['2024-01-01', '366d'], 4, 32),
     ('the same, a day of December', lambda: daily(600, 2_400), ['2024-12-30', '1d'], 2, 32),
     ('1,200 daily observances, 4,800 locals, a day of December', lambda: daily(1_200, 4_800), ['2024-12-30', '1d'], 4, 32),
+    ('480 locals before 120 daily observances', lambda: early(120, 480), ['2024-12-30', '1d'], 1, 32),
     ('1,200 yearly observances, 4,800 locals', lambda: yearly(1_200, 4_800), ['2024-01-01', '366d'], 1, 32),
     ('seconds of a day that is skipped', lambda: in_zone(skipped('UNTIL=20240630T235900Z'), '20240701T000000', 'RRULE:FREQ=SECONDLY;COUNT=86400'),
      ['2024-06-30', '4d'], 1, 32),
