@@ -1,5 +1,6 @@
 pub mod AfterLemmas
 pub mod AheadLemmas
+pub mod BeginningLemmas
 pub mod BeginsLemmas
 pub mod Cases
 pub mod ExclusionLemmas

@@ -105,5 +105,10 @@ module _ (files : List FileSaid) (display : Clock) (vs : List Version) (h : AreC
 
 -- a version, where any serves
 abbrev pub any_version : Version
-any_version =
-    record { subject = record { uid = record { ref_ptr = (0, 0); now = [] }; recurrence = None }; sequence = 0; spot = record { file = 0; place = 0 } }
+any_version = record {
+  subject = record { uid = record { ref_ptr = (0, 0); now = [] }; recurrence = None };
+  sequence = 0;
+  spot = record { file = 0; place = 0 };
+  beginning = 0;
+  begins = refl;
+}

@@ -1,7 +1,7 @@
 -- The versions of files, one file after the other. All sorted, of each subject the last is the one that counts, and there is exactly one.
 use Rattle.std.proofs.Common.{◌≡◌, ℕ, ℤ, List, [], ◌∷◌, Option, Some, None, inl, inr, ⊎_elim, Bool, true, false, cond, refl, sym, ◌∙◌, ap, subst, ◌+◌}
 use Rattle.std.proofs.Common.{add-one, ◌++◌, map, drop, get_or, option_map, ◌&&◌, slice_get, int_cmp, nat_cmp, is_eq, is_gt, is_lt, int_eq, Ordering, Less}
-use Rattle.std.proofs.Common.{Equal, Greater, drop-cons, append_assoc, filter, ◌<◌, length, IsSome, option_and_then, arith, zero, suc}
+use Rattle.std.proofs.Common.{Equal, Greater, drop-cons, append_assoc, filter, IsSome, option_and_then, arith, zero, suc}
 use Rattle.std.specs.Cmp.{IsTotalOrder, unsigned_ties}
 use Rattle.std.specs.Cmp.Lexicographic.{options_total, slice_cmp, lists_ties}
 use Rattle.std.specs.Option.{option_cmp, option_eq}
@@ -23,7 +23,7 @@ use Rattle.ics_series.specs.PlacedEvents.{Placed, IsPlaced, placed_cmp, clocks_a
 use Rattle.ics_series.specs.Versions.{by_subject, subject_cmp, version_cmp, lasts, is_followed, label_by, label_of, placed_from, placed_in, Label, seen}
 use Rattle.ics_series.specs.Versions.{label_cmp, is_same, AreChosen, spot_of}
 use Rattle.ics_series.proofs.ListingLemmas.{Climbs, up-to-in, climbs-map, map-climbs, followed, contains-in, in-contains, in-permutation, less-up-to}
-use Rattle.ics_series.proofs.ListingLemmas.{not-less-itself, relisted, filter-in, in-filter, in-append, in-append_left, in-append_right}
+use Rattle.ics_series.proofs.ListingLemmas.{not-less-itself, relisted, filter-in, get-in, in-filter, in-append, in-append_left, in-append_right}
 use Rattle.ics_series.proofs.Cases.{eq-Equal, less-by, up-to-front, some-same, by-cases, option-cases}
 use Rattle.ics_series.proofs.BeginsLemmas.{before-all}
 use Rattle.std.specs.List.Sorted.{IsPermutation}
@@ -373,11 +373,10 @@ module _ {A B : Type 0} (f : A → B) where
   map-in x [] m = absurd m
   map-in x (y ∷ ys) m = ⊎_elim (λ e. inl (ap f e)) (λ n. inr (map-in x ys n)) m
 
-pub stands : {files : List FileSaid} {display : Clock} {versions : List Version} (i : ℕ) (d : Version) → AreChosen files display versions →
-    i < length versions → IsSome (event_at files (get_or versions i d).spot)
-stands {files = files} {display = display} {versions = versions} i d h l =
-    let v : Version = get_or versions i d in
-    let there = map-in seen v versions (in-contains v versions (Contains-get_or versions i d l)) in
+pub stands : {files : List FileSaid} {display : Clock} {versions : List Version} {v : Version} (i : ℕ) → AreChosen files display versions →
+    slice_get versions i ≡ Some v → IsSome (event_at files v.spot)
+stands {files = files} {display = display} {versions = versions} {v = v} i h e =
+    let there = map-in seen v versions (get-in v versions i e) in
     let p = in-map (label_of files display) (seen v) h.chosen (subst (IsIn (seen v)) h.are there) in
     rw (ap (λ (l : Label). event_at files l.spot) p.2 ∙ placed-event files p.0 ((h.listing.exact p.0).0 p.1).placed) refl
 

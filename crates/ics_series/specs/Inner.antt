@@ -1,4 +1,5 @@
 -- Words of private contracts and of proofs: no public clause reaches them.
+pub mod Beginnings
 pub mod EntryLaws
 pub mod Marks
 pub mod Masters

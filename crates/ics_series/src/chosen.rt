@@ -7,7 +7,8 @@ ghost use Rattle.ics_series.specs.Clocks.{display_clock};
 ghost use Rattle.ics_series.specs.Versions.{is_followed, is_named, is_override, is_same, lasts, seen, subject_cmp, subject_seen, AreChosen};
 ghost use Rattle.ics_series.specs.Inner.Whole.{AreRead};
 
-use crate::version::{Subject, Version, versions};
+use crate::version::{Subject, Version};
+use crate::versions::{compare, versions};
 use ics_event::FileEvents;
 use ics_zone::Display;
 use std::alloc::{AllocError, Global};
@@ -23,7 +24,7 @@ pub(crate) fn chosen<'a>(
     ensures read { IfOk result (λ _. AreRead (map said_by files.entry.now)) }
 {
     let mut versions = versions(alloc, files, display)?;
-    versions.sort_unstable_by(Version::compare);
+    versions.sort_unstable_by(compare);
     last_of_each(alloc, &versions)
 }
 

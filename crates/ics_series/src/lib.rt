@@ -39,6 +39,7 @@ mod starts;
 mod token;
 mod tournament;
 mod version;
+mod versions;
 mod window;
 mod zones;
 

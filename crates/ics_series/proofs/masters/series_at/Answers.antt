@@ -1,6 +1,6 @@
-use Rattle.std.proofs.Common.{◌≡◌, ◌≤ℤ◌, arith, ◌∙◌, rules, get_or, map, w64, to_z, of_z, refl, sym, ap, subst, option_map}
+use Rattle.std.proofs.Common.{◌≡◌, ◌≤ℤ◌, Some, arith, ◌∙◌, rules, map, slice_get, w64, to_z, of_z, refl, sym, ap, subst, option_map}
 use Rattle.std.proofs.lemmas.Int.{ints}
-use Rattle.std.proofs.lemmas.Option.{get_or_from_slice_get, slice_get-get_or}
+use Rattle.std.proofs.lemmas.Option.{slice_get_read}
 use Rattle.ics_event.specs.Event.{said_by, IsEventOf}
 use Rattle.ics_event.specs.declared.event.Event.{Event}
 use Rattle.ics_series.specs.Clocks.{display_clock}
@@ -11,25 +11,29 @@ use Rattle.ics_series.specs.declared.window.Window.{Window}
 use Rattle.ics_series.specs.Versions.{seen}
 use Rattle.ics_series.specs.FileZones.{clocks_in}
 use Rattle.ics_series.proofs.VersionLemmas.{stands}
-use Rattle.ics_series.proofs.OverrideLemmas.{any_version}
+use Rattle.ics_series.proofs.Cases.{some-same}
 use Rattle.ics_series.proofs.RecurringLemmas.{IsRead, not-single, series-listing}
 use Rattle.ics_series.proofs.SpanLemmas.{first_source}
 use Rattle.ics_series.proofs.ZoneLemmas.{own-event}
 use Rattle.ics_series.proofs.masters.series_at.Goals as goal
 
 pub event-event-requires : goal.event-event-requires
-event-event-requires c = stands c.args.place any_version c.requires.chosen
-    c.requires.within
+event-event-requires c =
+    stands c.args.place c.requires.chosen
+    (slice_get_read c.args.chosen.now _ c.args.place c.index-chosen-place.result refl c.requires.within c.index-chosen-place.is)
 
 pub returns-then-is_single : goal.returns-then-is_single
-returns-then-is_single c = record {
-  since = λ none. tt;
-  begun = tt;
-  sources = λ version there. tt;
-  series = λ version there.
-      not-single (get_or_from_slice_get c.args.chosen.now c.args.place version any_version there) c.event-event.ensures.event
-      (sym c.is_single.ensures ∙ c.if-is_single.true);
-}
+returns-then-is_single c =
+    let here : slice_get c.args.chosen.now c.args.place ≡ Some c.index-chosen-place.result =
+    slice_get_read c.args.chosen.now _ c.args.place c.index-chosen-place.result refl c.requires.within c.index-chosen-place.is in
+    record {
+      since = λ none. tt;
+      begun = tt;
+      sources = λ version there. tt;
+      series = λ version there.
+          not-single (some-same c.index-chosen-place.result version (sym here ∙ there)) c.event-event.ensures.event
+          (sym c.is_single.ensures ∙ c.if-is_single.true);
+    }
 
 pub new-requires-clause-own : goal.new-requires-clause-own
 new-requires-clause-own c =
@@ -38,22 +42,25 @@ new-requires-clause-own c =
 
 pub new-requires-clause-mark : goal.new-requires-clause-mark
 new-requires-clause-mark c =
-    c.requires.mark (get_or c.args.chosen.now c.args.place any_version) c.event-event.result.now
-    (slice_get-get_or c.args.chosen.now c.args.place any_version c.requires.within) c.event-event.ensures.event
+    c.requires.mark c.index-chosen-place.result c.event-event.result.now
+    (slice_get_read c.args.chosen.now _ c.args.place c.index-chosen-place.result refl c.requires.within c.index-chosen-place.is)
+    c.event-event.ensures.event
 
 pub returns : goal.returns
 returns c =
     let after = option_map (λ key. key_rank key.now) c.args.after in
-    let r : Recurs (map said_by c.args.files.now) (seen (get_or c.args.chosen.now c.args.place any_version)) =
+    let here : slice_get c.args.chosen.now c.args.place ≡ Some c.index-chosen-place.result =
+    slice_get_read c.args.chosen.now _ c.args.place c.index-chosen-place.result refl c.requires.within c.index-chosen-place.is in
+    let r : Recurs (map said_by c.args.files.now) (seen c.index-chosen-place.result) =
     record { event = c.event-event.result.now; stands = c.event-event.ensures.event; recurs = sym c.is_single.ensures ∙ c.if-is_single.false } in
     let uid : c.as_slice.result.now ≡ c.event-event.result.now.uid = c.as_slice.ensures ∙ ap (λ (e : Event). e.uid) c.event.view_is in
     let fits : to_z w64 (of_z w64 c.since_of-since.result) ≡ c.since_of-since.result = search rules in
     let since = rw (uid, ← fits) at c.since_of-since.ensures.since in
-    let read : IsRead (map said_by c.args.files.now) (display_clock c.args.display.now) (seen (get_or c.args.chosen.now c.args.place any_version))
+    let read : IsRead (map said_by c.args.files.now) (display_clock c.args.display.now) (seen c.index-chosen-place.result)
     c.event-event.result.now c.zones-zones.result = record { clocks = c.zones-zones.ensures.clocks; is_event = search rules } in
     record {
       series = λ version there.
-          rw (← get_or_from_slice_get c.args.chosen.now c.args.place version any_version there)
+          rw (← some-same c.index-chosen-place.result version (sym here ∙ there))
           (series-listing r read c.args.window after (to_z w64 (of_z w64 c.since_of-since.result)) since c.in_ok-series.ensures.listing);
       since = λ none.
           let first = ap
@@ -71,7 +78,7 @@ returns c =
           window = c.args.window;
           since = to_z w64 (of_z w64 c.since_of-since.result);
         },
-        rw (← get_or_from_slice_get c.args.chosen.now c.args.place version any_version there)
+        rw (← some-same c.index-chosen-place.result version (sym here ∙ there))
             (record {
               stands = c.event-event.ensures.event;
               recurs = r.recurs;

@@ -1,6 +1,6 @@
 use Rattle.std.proofs.lemmas.Grind.{common_steps}
-use Rattle.std.proofs.Common.{map, get_or, option_map, sym, ◌∙◌, ap, arith}
-use Rattle.std.proofs.lemmas.Option.{slice_get-get_or, slice_get-map}
+use Rattle.std.proofs.Common.{map, get_or, option_map, refl, sym, ◌∙◌, ap, arith}
+use Rattle.std.proofs.lemmas.Option.{slice_get-get_or, slice_get-map, slice_get_read}
 use Rattle.ics_event.specs.Event.{said_by}
 use Rattle.ics_series.specs.Clocks.{display_clock}
 use Rattle.ics_series.specs.Entry.{key_rank}
@@ -13,8 +13,8 @@ use Rattle.ics_series.proofs.singles.to_come.Goals as goal
 
 pub given-requires-clause-there : goal.given-requires-clause-there
 given-requires-clause-there c =
-    stands c.loop-place.place _ c.requires.chosen
-    c.loop-place-test.true
+    stands c.loop-place.place c.requires.chosen
+    (slice_get_read c.args.chosen.now _ c.loop-place.place c.index-chosen-place.result refl c.loop-place-test.true c.index-chosen-place.is)
 
 pub loop-place-preserved-then-is_out : goal.loop-place-preserved-then-is_out
 loop-place-preserved-then-is_out c =

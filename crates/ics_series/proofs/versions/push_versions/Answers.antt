@@ -4,7 +4,7 @@ use Rattle.std.proofs.lemmas.Option.{slice_get_read, slice_get_within}
 use Rattle.hex.specs.Hex.{IsBytes}
 use Rattle.ics_event.specs.Event.{IsEvent}
 use Rattle.ics_series.proofs.Cases.{below-or-last, some-same}
-use Rattle.ics_series.proofs.version.push_versions.Goals as goal
+use Rattle.ics_series.proofs.versions.push_versions.Goals as goal
 
 pub loop-place-init : goal.loop-place-init
 loop-place-init c = record { labels = grind (arith, common_steps); read = λ place event l there. absurd (omega (arith, l)) }

@@ -1,4 +1,4 @@
-use Rattle.ics_series.proofs.version.are_bytes.Goals as goal
+use Rattle.ics_series.proofs.versions.are_bytes.Goals as goal
 
 pub returns : goal.returns
 returns c = λ i. (c.type_inv.bytes i).fits

@@ -4,7 +4,7 @@ use Rattle.ics_series.specs.Clocks.{display_clock}
 use Rattle.ics_series.specs.PlacedEvents.{IsPlaced, Placed}
 use Rattle.ics_series.specs.Versions.{label_of, placed_in, seen}
 use Rattle.ics_series.specs.Inner.Whole.{IsReadEvent}
-use Rattle.ics_series.proofs.version.versions.Given as goal
+use Rattle.ics_series.proofs.versions.versions.Given as goal
 
 abbrev pub invariant-loop-number : goal.invariant-loop-number
 invariant-loop-number l = record {

@@ -3,7 +3,7 @@ use Rattle.ics_event.specs.declared.event.Event.{Event}
 use Rattle.ics_series.specs.Versions.{label_by, placed_from, seen}
 use Rattle.ics_series.specs.FileZones.{clocks_in}
 use Rattle.ics_series.specs.Inner.Whole.{IsReadEvent}
-use Rattle.ics_series.proofs.version.push_versions.Given as goal
+use Rattle.ics_series.proofs.versions.push_versions.Given as goal
 
 abbrev pub invariant-loop-place : goal.invariant-loop-place
 invariant-loop-place l = record {

@@ -8,7 +8,7 @@ use Rattle.ics_series.specs.Clocks.{display_clock}
 use Rattle.ics_series.specs.Versions.{seen}
 use Rattle.ics_series.proofs.VersionLemmas.{labels-step}
 use Rattle.ics_series.proofs.WholeLemmas.{read-step}
-use Rattle.ics_series.proofs.version.versions.Goals as goal
+use Rattle.ics_series.proofs.versions.versions.Goals as goal
 
 pub loop-number-preserved : goal.loop-number-preserved
 loop-number-preserved c =
