@@ -1,19 +1,20 @@
 -- Two UIDs whose first bytes differ stand in the order of these.
 use Rattle.std.proofs.Common.{◌≡◌, ℕ, zero, suc, List, [], ◌∷◌, refl, sym, ◌∙◌, ap, add-one, ◌+◌, ◌*◌, ◌-◌, ◌^◌, ◌<◌, ◌≤◌, drop, get_or, ⊎_elim, ◌⊎◌}
-use Rattle.std.proofs.Common.{inl, inr, arith}
+use Rattle.std.proofs.Common.{inl, inr, arith, Bool, true, false, bytes_eq}
 use Rattle.std.proofs.Common.{nat_cmp, Ordering, Less, Equal, Greater}
-use Rattle.std.specs.Cmp.Lexicographic.{slice_cmp}
+use Rattle.std.specs.Cmp.Lexicographic.{bytes_decides, slice_cmp}
 use Rattle.std.specs.Ordering.{int_cmp, on, ordering_reverse, ordering_then, then_cmp}
 use Rattle.std.specs.Cmp.{nat_cmp_is}
 use Rattle.std.proofs.lemmas.Cmp.{nat_cmp_total, nat_list_cmp_total}
 use Rattle.ics_series.proofs.Cases.{here-or-later}
-use Rattle.ics_series.specs.Versions.{label_cmp, seen}
+use Rattle.ics_series.specs.Versions.{is_same, label_cmp, seen}
 use Rattle.ics_series.specs.declared.version.Version.{Version}
 use Rattle.std.specs.Option.{option_cmp}
 use Rattle.std.proofs.lemmas.Nat.{pow-add}
 use Rattle.std.proofs.Math.Pow.{pow_mono}
 use Rattle.hex.specs.Hex.{IsBytes}
 use Rattle.ics_series.specs.Inner.Beginnings.{beginning_of, number_by}
+use Rattle.ics_rule.proofs.KeptLemmas.{and_true}
 
 number-next : (more number place : ℕ) (bytes : List ℕ) →
     number_by (suc more) number (drop place bytes) ≡ number_by more (number * 256 + get_or bytes place 0) (drop (suc place) bytes)
@@ -107,3 +108,13 @@ by-labels a b r p q h n =
     sym
     (ap (λ o. ordering_then (ordering_then o (option_cmp int_cmp a.subject.recurrence b.subject.recurrence)) (rest (seen a) (seen b))) first
     ∙ by-first r _ _ n)
+
+-- Versions whose first bytes differ are of two subjects.
+apart-by : (a b : Version) (same : Bool) → same ≡ is_same (seen a) (seen b) → (a.beginning ≡ b.beginning → ⊥) → false ≡ same
+apart-by a b false is n = refl
+apart-by a b true is n =
+    let uids = and_true {a = bytes_eq a.subject.uid.now b.subject.uid.now} (sym is) in
+    absurd (n (a.begins ∙ ap beginning_of ((bytes_decides a.subject.uid.now b.subject.uid.now).0 uids.0) ∙ sym b.begins))
+
+pub apart : (a b : Version) → (a.beginning ≡ b.beginning → ⊥) → false ≡ is_same (seen a) (seen b)
+apart a b n = apart-by a b (is_same (seen a) (seen b)) refl n
