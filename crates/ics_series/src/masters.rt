@@ -66,6 +66,10 @@ pub(crate) fn push_series<'a>(
         if is_out(spans, place, &window) {
             continue;
         }
+        // A series takes much room, which is cleared and moved where one may be made.
+        if is_single(chosen[place].spot.event(files)) {
+            continue;
+        }
         let mark = mark_at(marks, place);
         if let Some(mut series) = series_at(
             alloc, files, display, chosen, place, mark, window, after,

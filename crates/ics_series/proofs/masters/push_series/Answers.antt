@@ -19,9 +19,11 @@ use Rattle.ics_series.specs.Inner.Spans.{is_out, AreMovedOn}
 use Rattle.ics_series.specs.SeriesFeed.{series_left, series_of, series_sources}
 use Rattle.ics_series.proofs.MarkLemmas.{mark-of, marks-put, own-mark}
 use Rattle.ics_series.proofs.OverrideLemmas.{any_version}
+use Rattle.ics_series.proofs.RecurringLemmas.{not-single}
 use Rattle.ics_series.proofs.SourceLemmas.{lists-none, versions-all, versions-more, versions-none, versions-skip, sources-all, sources-more, sources-none}
 use Rattle.ics_series.proofs.SourceLemmas.{sources-skip}
 use Rattle.ics_series.proofs.SpanLemmas.{moved-both, moved-here, moved-none, out-version, same-sources, series-moved}
+use Rattle.ics_series.proofs.VersionLemmas.{stands}
 use Rattle.ics_series.proofs.masters.push_series.Goals as goal
 use Rattle.ics_series.proofs.masters.push_series.Goals.{After-move_on, in-Some+in_ok-move_on+in_ok-new+in_ok-push, in_default}
 
@@ -145,6 +147,25 @@ loop-place-preserved-then-is_out c =
     (option_map (λ key. key_rank key.now) c.args.after) in
     record {
       lists = versions-none vs k there c.loop-place.invariant.lists none refl;
+      sources = sources-skip c.requires.chosen k there c.loop-place.invariant.sources refl;
+      spans = c.loop-place.invariant.spans;
+      marks = c.loop-place.invariant.marks;
+    }
+
+pub event-requires : goal.event-requires
+event-requires c =
+    stands c.loop-place.place c.requires.chosen
+    (slice_get-get_or c.args.chosen.now c.loop-place.place c.index-chosen-place.result c.loop-place-test.true)
+
+pub loop-place-preserved-then-is_single : goal.loop-place-preserved-then-is_single
+loop-place-preserved-then-is_single c =
+    let vs = c.args.chosen.now in
+    let k = c.loop-place.place in
+    let v = get_or vs k c.index-chosen-place.result in
+    let there = slice_get-get_or vs k c.index-chosen-place.result c.loop-place-test.true in
+    record {
+      lists = versions-skip vs k there c.loop-place.invariant.lists
+          (not-single {u = v} {v = v} refl c.event.ensures.event (sym c.is_single.ensures ∙ c.if-is_single.true)) refl;
       sources = sources-skip c.requires.chosen k there c.loop-place.invariant.sources refl;
       spans = c.loop-place.invariant.spans;
       marks = c.loop-place.invariant.marks;
