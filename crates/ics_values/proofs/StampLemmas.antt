@@ -63,6 +63,20 @@ date_time_digits text h = elim (or_cases (is_utc_form text) (is_local_form text)
       ))
 ]
 
+-- a DATE-TIME of sixteen bytes is one in UTC, and no other
+pub utc_by_length : (text : List ℕ) → is_date_time_form text ≡ true → (length text == 16) ≡ is_utc_form text
+utc_by_length text h =
+    by_tests (length text == 16) (length text == 15) (is_local_form (take 15 text)) (letter_at text 15 == 90)
+    (are_digits (take 8 text)) (letter_at text 8 == 84) (are_digits (drop 9 text)) apart h
+  where
+    apart : (length text == 16) ≡ true → (length text == 15) ≡ false
+    apart e = ap (λ n. n == 15) (eqb-true (length text) 16 e)
+
+    by_tests : (long short local zulu date letter time : Bool) → (long ≡ true → short ≡ false)
+        → ((long && local && zulu) || (short && date && letter && time)) ≡ true → long ≡ (long && local && zulu)
+    by_tests false short local zulu date letter time n h = refl
+    by_tests true short local zulu date letter time n h = let none = n refl in grind (arith, nat_tests, none)
+
 -- what holds of each stamp that the text may say holds of the one that it says
 said_is : (P : Stamp → Type 0) (zoned : Bool) (text : List ℕ) →
     P (Date (day_of text)) × P (Utc (local_of text)) × P (Zoned (local_of text)) × P (Floating (local_of text)) → P (stamp_said zoned text)

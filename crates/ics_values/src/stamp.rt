@@ -73,6 +73,15 @@ pub fn is_date_time_form(text: &[u8]) -> bool
     is_utc_form(text) || is_local_form(text)
 }
 
+/// Whether a DATE-TIME is one in UTC: it is longer than a local one.
+#[tactic(auto, using(crate::proofs::StampLemmas::utc_by_length))]
+fn is_in_utc(text: &[u8]) -> bool
+    requires { is_date_time_form text.now ≡ true }
+    ensures { result ≡ is_utc_form text.now }
+{
+    text.len() == 16
+}
+
 /// The number that the text's first four digits spell.
 pub fn year_of(text: &[u8]) -> u32
     requires { HasDate text.now }
@@ -118,7 +127,7 @@ pub fn any_stamp(text: &[u8], zoned: bool) -> Option<Stamp>
         return None;
     }
     let local = Local::at(day_of(text)?, second_of(text)?);
-    Some(if is_utc_form(text) {
+    Some(if is_in_utc(text) {
         Stamp::Utc(local)
     } else if zoned {
         Stamp::Zoned(local)

@@ -15,8 +15,11 @@ day_of-requires-2 c = (date_time_digits c.args.text.now (sym c.is_date_time_form
 pub second_of-requires : goal.second_of-requires
 second_of-requires c = (date_time_digits c.args.text.now (sym c.is_date_time_form.ensures ∙ c.if-not-is_date_time_form.false)).1
 
-pub returns-then-is_utc_form-clause-digits : goal.returns-then-is_utc_form-clause-digits
-returns-then-is_utc_form-clause-digits c = (date_time_digits c.args.text.now (sym c.is_date_time_form.ensures ∙ c.if-not-is_date_time_form.false)).0
+pub is_in_utc-requires : goal.is_in_utc-requires
+is_in_utc-requires c = sym c.is_date_time_form.ensures ∙ c.if-not-is_date_time_form.false
+
+pub returns-then-is_in_utc-clause-digits : goal.returns-then-is_in_utc-clause-digits
+returns-then-is_in_utc-clause-digits c = (date_time_digits c.args.text.now (sym c.is_date_time_form.ensures ∙ c.if-not-is_date_time_form.false)).0
 
 pub returns-then-zoned-clause-digits : goal.returns-then-zoned-clause-digits
 returns-then-zoned-clause-digits c = (date_time_digits c.args.text.now (sym c.is_date_time_form.ensures ∙ c.if-not-is_date_time_form.false)).0
