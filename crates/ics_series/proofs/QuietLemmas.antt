@@ -1,6 +1,6 @@
 -- From when on an event can occur again.
 use Rattle.std.proofs.Common.{◌≡◌, ◌⊎◌, ℕ, ◌+◌, ◌<◌, ◌≤◌, ℤ, ◌+ℤ◌, ◌<ℤ◌, ◌≤ℤ◌, inl, inr, true, false, max, Option, Some}
-use Rattle.std.proofs.Common.{None}
+use Rattle.std.proofs.Common.{None, pos}
 use Rattle.std.proofs.Common.{MatchOption, is_none, option_map, sym, ◌∙◌, ap, subst, arith}
 use Rattle.std.proofs.lemmas.Bool.{and_from, and_parts, cases_lt}
 use Rattle.std.proofs.lemmas.Bool.Decides.{nat_tests}
@@ -104,7 +104,8 @@ module _ (s : RuleStarts) where
 
   -- What is kept from the cursor's place on is not before this local, and so no start before its instant.
   pub quiet-by : (local : Local) {t : ℤ} → NoneKept s.rule (place_of s.cursor) (number local) → IsDayNumber local.day → t ≤ℤ s.beyond
-      → t ≤ℤ settled_by s.event.now.start.stamp s.bounds.most local.day (local_seconds local) → AreQuiet clocks s.event.now s.rule s.window (number s.from) t
+      → t ≤ℤ (settled_by s.event.now.start.stamp s.bounds.most local.day (local_seconds local) +ℤ pos 1)
+      → AreQuiet clocks s.event.now s.rule s.window (number s.from) t
   quiet-by local {t = t} none day less settled n l late = elim (cases_lt n (place_of s.cursor)) [
     | inl early ↦ λ by end. let b = s.past_end n l early by end in omega (arith, ints, b, less)
     | inr past ↦ λ by end. elim (cases_lt n (number local)) [

@@ -376,7 +376,9 @@ impl<'a> RuleStarts<'a> {
                     next.day,
                     next.seconds(),
                 );
-                self.beyond.min(settled)
+                // They are after a settled instant.
+                let after = settled + 1;
+                self.beyond.min(after)
             }
         }
     }

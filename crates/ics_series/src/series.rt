@@ -250,14 +250,26 @@ impl<'a> Series<'a> {
         Ok(earlier_of(ruled, self.listed.peek()))
     }
 
-    /// Drops the starts that give no occurrence, up to the first that gives one. Whether there is one.
+    // Whether a start can give an occurrence. One that is not before the window does, unless an EXDATE
+    // removes it, and is not looked at any further.
+    fn can_give(&self, start: Start) -> bool
+        requires { IsStartIn self.now.zones start }
+        ensures { result ≡ false → wanted_by (clocks_in self.now.zones) self.now.window self.now.event.now self.now.since start ≡ None }
+    {
+        if self.window.from <= start.moment {
+            return true;
+        }
+        self.wanted(start).is_some()
+    }
+
+    /// Drops the starts that give no occurrence, up to the first that can give one. Whether there is one.
     pub(crate) fn settle(&mut self) -> Result<bool, AllocError>
         ensures coming { series_of self.new (series_left self.new) ≡ series_of self.old (series_left self.old) }
         ensures same { IsSameSeries self.old self.new }
         ensures none { IfOk result (λ some. some ≡ false → series_of self.new (series_left self.new) ≡ []) }
     {
         while let Some(start) = self.peek()? {
-            if self.wanted(start).is_some() {
+            if self.can_give(start) {
                 return Ok(true);
             }
             self.take()?;

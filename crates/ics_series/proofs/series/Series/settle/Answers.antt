@@ -1,7 +1,6 @@
-use Rattle.std.proofs.Common.{◌≡◌, [], ◌∷◌, ◌∙◌, suc, length, List, Option, Some, None, true, false, is_some, option_map, slice_get, refl, rules, sym}
+use Rattle.std.proofs.Common.{◌≡◌, [], ◌∷◌, ◌∙◌, suc, length, List, Option, Some, None, slice_get, refl, rules, sym}
 use Rattle.std.proofs.Common.{ap, arith}
 use Rattle.ics_series.specs.declared.start.Start.{Start}
-use Rattle.ics_series.specs.Entry.{entry_of}
 use Rattle.ics_series.specs.SeriesFeed.{series_left, series_of}
 use Rattle.ics_series.specs.SeriesStarts.{IsTaken}
 use Rattle.ics_series.proofs.Cases.{some-same}
@@ -13,26 +12,22 @@ none-left : (starts : List Start) → None ≡ slice_get starts 0 → starts ≡
 none-left [] e = refl
 none-left (s ∷ starts) e = let no : None ≡ Some s = e in absurd cc
 
-none-mapped : {X Y : Type 0} (f : X → Y) (o : Option X) → is_some o ≡ false → option_map f o ≡ None
-none-mapped f None e = refl
-none-mapped f (Some x) e = let no : true ≡ false = e in absurd cc
-
 -- what is taken is the first
 taken-first : (given : Option Start) (start : Start) (xs ys : List Start) → Some start ≡ slice_get xs 0 → IsTaken xs given ys → xs ≡ start ∷ ys
 taken-first None start xs ys first taken = let no : Some start ≡ None = first ∙ ap (λ zs. slice_get zs 0) taken.0 in absurd cc
 taken-first (Some s) start xs ys first taken =
     taken ∙ ap (λ x. x ∷ ys) (some-same s start (sym (first ∙ ap (λ zs. slice_get zs 0) taken)))
 
-pub wanted-requires : goal.wanted-requires
-wanted-requires c =
+pub can_give-requires : goal.can_give-requires
+can_give-requires c =
     let s = c.peek.new.self in
     s.known c.in-Some.start (get-in c.in-Some.start (series_left s) 0 (sym c.in_ok-start.ensures.first ∙ c.in-Some.is))
 
 pub returns-in_err-start-clause-same : goal.returns-in_err-start-clause-same
 returns-in_err-start-clause-same c = both-same c.loop-start.invariant.same c.peek.ensures.same
 
-pub returns-then-is_some-clause-same : goal.returns-then-is_some-clause-same
-returns-then-is_some-clause-same c = both-same c.loop-start.invariant.same c.peek.ensures.same
+pub returns-then-can_give-clause-same : goal.returns-then-can_give-clause-same
+returns-then-can_give-clause-same c = both-same c.loop-start.invariant.same c.peek.ensures.same
 
 pub returns-in_err-take-clause-same : goal.returns-in_err-take-clause-same
 returns-in_err-take-clause-same c = both-same c.loop-start.invariant.same (both-same c.peek.ensures.same c.take.ensures.same)
@@ -50,7 +45,7 @@ loop-start-smaller c =
 pub loop-start-preserved : goal.loop-start-preserved
 loop-start-preserved c =
     let peeked = same-coming c.loop-start.self c.peek.new.self c.peek.ensures.same c.peek.ensures.left in
-    let none = sym c.wanted.ensures ∙ none-mapped entry_of c.wanted.result (sym c.is_some.ensures ∙ c.if-is_some.false) in
+    let none = c.can_give.ensures c.if-can_give.false in
     let first = taken-first c.in_ok-take.field-0 c.in-Some.start (series_left c.peek.new.self) (series_left c.take.new.self)
     (sym c.in-Some.is ∙ c.in_ok-start.ensures.first) c.in_ok-take.ensures.taken in
     record {
