@@ -157,10 +157,11 @@ series-most s coming most near bound = by s.rule_starts s.own_rule (λ e m of. (
         → ((e : Entry) → IsIn e coming → e.event ≡ s.event.now → IsAskedNear (clocks_in s.zones) s.event.now (rule_asked o) e.start) → rule_looked o ≤ most
     by None own near = omega arith
     by (Some r) own near =
-        let p = bound r.rule (sym (ap recurrence_of own.event_is) ∙ r.of) in
+        let p = bound r.rule (sym (ap recurrence_of own.event_is) ∙ r.rule_of.of) in
         let ends = λ (w : Window) (v : Event). ends_at w (until_moment r.rule) (local_seconds (local_of v.start.stamp)) in
         let off = λ (v : Event). seconds_off v.start.stamp in
-        let end : midnight r.asked ≤ℤ (ends r.window r.event.now +ℤ (off r.event.now +ℤ whole_days 1)) = omega (arith, ints, r.asked_end, r.soon) in
+        let end : midnight r.asked ≤ℤ (ends r.window r.event.now +ℤ (off r.event.now +ℤ whole_days 1)) =
+        omega (arith, ints, r.reached.by_end, r.rule_of.soon) in
         let off-is : off r.event.now ≡ off s.event.now = ap off own.event_is in
         let to-is : ends r.window r.event.now ≡ ends s.window s.event.now = λ i. ends (own.window_is i) (own.event_is i) in
         let high : midnight_number r.asked ≤ p.b = ⊎_elim

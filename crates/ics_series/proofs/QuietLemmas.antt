@@ -113,7 +113,7 @@ module _ (s : RuleStarts) where
           let no : true ≡ false =
           sym (kept-by clocks s.event.now s.rule s.window (number s.from) n by) ∙ none n past before in cc)
       | inr on ↦
-          let at = late-settled s.zones s.event.now s.bounds s.bounded local.day (local_seconds local) n day
+          let at = late-settled s.zones s.event.now s.bounds s.rule_of.bounded local.day (local_seconds local) n day
           (omega (arith, ints, on, number-seconds local day, number-day local.day day))
           (omega (arith, ints, on, number-seconds local day)) in
           omega (arith, ints, at, settled)
@@ -171,7 +171,7 @@ module _ (zones : FileZones) (event : Event) (own : IsOwnEvent zones event) (w :
       no-rule None e f = let x : None ≡ Some r.rule = f in cc
       no-rule (Some parts) e f = let x : false ≡ true = e in cc
   by-rule (Some s) rule q local r end late =
-      let has : recurrence_of event ≡ Some s.rule = rw rule.event_is at s.of in
+      let has : recurrence_of event ≡ Some s.rule = rw rule.event_is at s.rule_of.of in
       let kept = ruled-kept (clocks_in zones) event s.rule has local (inr r) in
       let low = kept-late s.rule (number local) kept.0 in
       let day = r.calendar in

@@ -250,7 +250,7 @@ module _ (s : Series) (apart : (day : ℤ) → s.event.now.start.stamp ≡ Date 
   rule-in : (n : ℕ) → gives clocks event a.rule s.window n ≡ true → IsStartIn s.zones (start_at clocks event (local_numbered n))
   rule-in n g =
       let early = in-rules s.zones event a.rule s.window n g in
-      let has : recurrence_of event ≡ Some a.rule = ap recurrence_of (sym own.event_is) ∙ a.of in
+      let has : recurrence_of event ≡ Some a.rule = ap recurrence_of (sym own.event_is) ∙ a.rule_of.of in
       record {
         value = kept-time event (local_numbered n) s.own.start.is_time has (omega (arith, ints), omega (arith, ints, early))
             (ap (is_kept a.rule) (number-numbered n) ∙ (given-parts s.zones event a.rule s.window n g).0);

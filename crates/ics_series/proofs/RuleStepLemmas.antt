@@ -10,7 +10,7 @@ use Rattle.ics_fields.specs.declared.local.Local.{Local}
 use Rattle.jiff_core.specs.Calendar.{IsBetween, IsWithin}
 use Rattle.ics_rule.specs.Cursors.{place_of, IsCursorOf}
 use Rattle.ics_rule.specs.Kept.{until_moment}
-use Rattle.ics_fields.specs.Locals.{day_of_local, local_at, local_seconds, number, midnight, whole_days, year_number, year_seconds}
+use Rattle.ics_fields.specs.Locals.{day_of_local, local_at, local_seconds, number, midnight, whole_days, year_seconds}
 use Rattle.ics_rule.specs.Next.{NoneKept, IsNextKept}
 use Rattle.ics_rule.specs.Recurrence.{Recurrence}
 use Rattle.ics_rule.proofs.KeptLemmas.{and_true}
@@ -27,7 +27,7 @@ use Rattle.ics_series.specs.Inner.MergedLaws.{rises-union}
 use Rattle.ics_series.specs.Rising.{Rises}
 use Rattle.ics_series.specs.RuleFeed.{held_in, is_unsettled, settled_in, starts_left}
 use Rattle.ics_series.specs.RuleStarts.{ends_at, found, gives, is_behind, is_ready, midnight_number, moment_numbered, steps_left, to_come, with_held, AreHeld}
-use Rattle.ics_series.specs.RuleStarts.{IsHeld}
+use Rattle.ics_series.specs.RuleStarts.{IsHeld, IsReadTo}
 use Rattle.ics_series.specs.Starts.{local_of, time_at}
 use Rattle.ics_zone.specs.Observances.{is_until}
 use Rattle.ics_series.specs.FileZones.{clocks_in, IsTimeOf}
@@ -132,13 +132,13 @@ module _ (s : RuleStarts) where
   pub end-soon : midnight s.end <ℤ (s.window.to +ℤ whole_days 3)
   end-soon =
       let most = ends-most s.window (until_moment s.rule) (local_seconds (local_of s.event.now.start.stamp)) in
-      omega (arith, ints, s.soon, most, off-range s.event.now.start.stamp)
+      omega (arith, ints, s.rule_of.soon, most, off-range s.event.now.start.stamp)
 
   pub day-days : IsDayNumber s.day
-  day-days = (omega (arith, ints, s.low), omega (arith, ints, s.asked_on, s.asked_end, end-soon, s.window.not_late))
+  day-days = (omega (arith, ints, s.reached.low), omega (arith, ints, s.reached.on, s.reached.by_end, end-soon, s.window.not_late))
 
   pub end-days : IsDayNumber s.end
-  end-days = (omega (arith, ints, s.low, s.asked_on, s.asked_end), omega (arith, ints, end-soon, s.window.not_late))
+  end-days = (omega (arith, ints, s.reached.low, s.reached.on, s.reached.by_end), omega (arith, ints, end-soon, s.window.not_late))
 
   -- a local that gives a start has a day before the end
   given-early : (day : ℤ) (n : ℕ) → IsDayNumber day → midnight_number day ≤ n → gives (clocks_in s.zones) s.event.now s.rule s.window n ≡ true →
@@ -146,37 +146,37 @@ module _ (s : RuleStarts) where
   given-early day n h l g =
       let t = moment_numbered (clocks_in s.zones) s.event.now n in
       let until = until_moment s.rule in
-      let late = off-numbered s.zones s.event.now s.bounds s.bounded day n h l in
+      let late = off-numbered s.zones s.event.now s.bounds s.rule_of.bounded day n h l in
       let parts = given-parts s.zones s.event.now s.rule s.window n g in
       let first = local_of s.event.now.start.stamp in
       ⊎_elim
       (λ same.
-      let is : n ≡ number first = eqb-true n (number s.rule.start) same ∙ s.first in
-      let at = number-seconds first (calendar-day first.day (own-day s.event.now.start s.time.is_time)) in
+      let is : n ≡ number first = eqb-true n (number s.rule.start) same ∙ s.rule_of.first in
+      let at = number-seconds first (calendar-day first.day (own-day s.event.now.start s.rule_of.time.is_time)) in
       let before = int_min_is (local_seconds first) (ends_at s.window until (local_seconds first) -ℤ pos 1) in
-      ⊎_elim (λ e. omega (arith, ints, late, e, s.after)) (λ e. omega (arith, ints, e, s.first_before, before, is, at, number-day day h, l))
+      ⊎_elim (λ e. omega (arith, ints, late, e, s.rule_of.after)) (λ e. omega (arith, ints, e, s.rule_of.first_before, before, is, at, number-day day h, l))
       (within-first s.window until (local_seconds first) t parts.2))
-      (λ e. let early = within-until s.window until (local_seconds first) t parts.2 e in omega (arith, ints, late, early, s.after))
+      (λ e. let early = within-until s.window until (local_seconds first) t parts.2 e in omega (arith, ints, late, early, s.rule_of.after))
       (or_cases (n == number s.rule.start) (is_until until t) parts.1)
 
   -- all locals to be read are of the years 0000 to 9999
   pub next-years : IsBetween (year_seconds 0) (year_seconds 10_000) s.next
   unfolding IsCursorOf
-  next-years = (omega (arith, ints, s.low, s.next_on), omega (arith, ints, s.next_read, s.own.inside))
+  next-years = (omega (arith, ints, s.reached.low, s.reached.next_on), omega (arith, ints, s.reached.next_read, s.own.inside))
 
   -- a local after the next one to be read, and no later than the window's end by any offset of the clock's, is of these years
   pub passed-day : {last day : ℤ} → s.next <ℤ last → last ≤ℤ (s.window.to +ℤ s.bounds.least) → day ≡ day_of_local last → IsDayNumber day
   passed-day {last = last} {day = day} late early is =
       let under = day-under last day is in (
         omega (arith, ints, under.1, late, next-years),
-        omega (arith, ints, under.0, early, s.window.not_late, s.bounded.least_short),
+        omega (arith, ints, under.0, early, s.window.not_late, s.rule_of.bounded.least_short),
       )
 
   -- what is held is no more than the event has in five UTC days
   pub few-held : length (held_in s) ≤ most_in_days (clocks_in s.zones) s.event.now
   few-held =
-      held-in-days s.zones s.event.now s.rule s.window s.time.is_time s.of (held_in s) (omega (arith, ints, s.low, s.asked_on))
-      (omega (arith, ints, s.asked_end, end-days.1)) s.rises s.are
+      held-in-days s.zones s.event.now s.rule s.window s.rule_of.time.is_time s.rule_of.of (held_in s) (omega (arith, ints, s.reached.low, s.reached.on))
+      (omega (arith, ints, s.reached.by_end, end-days.1)) s.rises s.are
 
   -- what is still to come where this is held, and what the locals give that are not read yet
   abbrev left : List Start → List Start
@@ -189,8 +189,8 @@ module _ (s : RuleStarts) where
   found-late : (t : Start) → IsIn t unread → ((midnight s.day -ℤ whole_days 2) <ℤ t.moment) × (s.day <ℤ s.end)
   found-late t m =
       let f = found-is s.zones s.event.now s.rule s.window (place_of s.cursor) t m in
-      let late = late-numbered s.zones s.event.now s.day f.by day-days (omega (arith, s.read, f.from_place)) in
-      let early = given-early s.day f.by day-days (omega (arith, s.read, f.from_place)) f.given in
+      let late = late-numbered s.zones s.event.now s.day f.by day-days (omega (arith, s.reached.read, f.from_place)) in
+      let early = given-early s.day f.by day-days (omega (arith, s.reached.read, f.from_place)) f.given in
       (omega (arith, ints, late, ap (λ (x : Start). x.moment) f.is), early)
 
   -- and after the settled instant
@@ -198,8 +198,8 @@ module _ (s : RuleStarts) where
   found-settled t m =
       let f = found-is s.zones s.event.now s.rule s.window (place_of s.cursor) t m in
       let after =
-      late-settled s.zones s.event.now s.bounds s.bounded s.day s.next f.by day-days (omega (arith, s.read, f.from_place))
-      (omega (arith, ints, s.next_read, f.from_place)) in
+      late-settled s.zones s.event.now s.bounds s.rule_of.bounded s.day s.next f.by day-days (omega (arith, s.reached.read, f.from_place))
+      (omega (arith, ints, s.reached.next_read, f.from_place)) in
       omega (arith, ints, after, ap (λ (x : Start). x.moment) f.is)
 
   -- where no local more has to be read the first that is held is the first still to come
@@ -232,13 +232,13 @@ module _ (s : RuleStarts) where
   passed-left t new is ready = rw is (passed t (held_in s) (settled (held_in s) s.rises ready))
 
   pub asked-number : pos (midnight_number s.asked) ≡ midnight s.asked +ℤ pos 62_167_219_200
-  asked-number = number-day s.asked (omega (arith, ints, s.low, s.asked_on), omega (arith, ints, s.asked_end, end-days.1))
+  asked-number = number-day s.asked (omega (arith, ints, s.reached.low, s.reached.on), omega (arith, ints, s.reached.by_end, end-days.1))
 
   -- each start still to come begins no more than three days before the day that is not asked for yet
   pub left-near : (t : Start) → IsIn t (starts_left s) → (midnight s.asked -ℤ whole_days 3) ≤ℤ t.moment
   unfolding to_come
   left-near t m =
-      ⊎_elim (λ n. (s.are t n).late) (λ n. let late = (found-late t n.1).0 in omega (arith, ints, late, s.asked_soon))
+      ⊎_elim (λ n. (s.are t n).late) (λ n. let late = (found-late t n.1).0 in omega (arith, ints, late, s.reached.soon))
       (union-in moment_cmp moment_total t (held_in s) unread (rises-found (clocks_in s.zones) s.event.now s.rule s.window (place_of s.cursor)) m)
 
   -- and none before an instant that is not after those of what is held, nor after the settled one
@@ -253,13 +253,7 @@ module _ (s : RuleStarts) where
 pub record IsRead (s : RuleStarts) (day asked next : ℤ) (place known : ℕ) (held : List Start) : Type 0 where
   pub rises : Rises moment_cmp held
   pub are : AreHeld (clocks_in s.zones) s.event.now s.rule s.window asked held
-  pub read : midnight_number day ≤ place
-  pub next_read : (next +ℤ pos (year_number 1_970)) ≤ℤ pos place
-  pub next_on : midnight day ≤ℤ next
-  pub low : year_seconds 0 ≤ℤ midnight day
-  pub on : day ≤ℤ asked
-  pub soon : asked ≤ℤ (day +ℤ pos 1)
-  pub end : asked ≤ℤ s.end
+  pub reached : IsReadTo day asked s.end next place
   pub before : (midnight_number s.asked ≤ midnight_number asked) × (known ≤ midnight_number asked)
   pub same : to_come (clocks_in s.zones) s.event.now s.rule s.window held place ≡ starts_left s
   pub less : steps_left day s.end place < steps_left s.day s.end (place_of s.cursor)
@@ -267,7 +261,7 @@ pub record IsRead (s : RuleStarts) (day asked next : ℤ) (place known : ℕ) (h
 module _ (s : RuleStarts) {b : ℤ} (fits : mag b < 2_147_483_648) (later : s.day <ℤ b) (within : b ≤ℤ s.end) {at : Local}
     (is : at ≡ local_at (to_z w32 (of_z w32 b)) 0) where
   days : IsDayNumber b
-  days = (omega (arith, ints, later, s.low), omega (arith, ints, within, (end-days s).1))
+  days = (omega (arith, ints, later, s.reached.low), omega (arith, ints, within, (end-days s).1))
 
   there : number at ≡ midnight_number b
   there = rw (is, signed-back b b fits refl) refl
@@ -291,27 +285,29 @@ module _ (s : RuleStarts) {b : ℤ} (fits : mag b < 2_147_483_648) (later : s.da
   none-read are next {seconds = seconds} read = let from = midnight-back seconds read in rw (signed-back b b fits refl) (record {
     rises = s.rises;
     are = are;
-    read = omega (arith, next.1, there);
-    next_read = omega (arith, ints, next.1, there, from, number-day b days);
-    next_on = omega (arith, ints, from);
-    low = omega (arith, ints, days.0);
-    on = omega (arith, ints);
-    soon = omega (arith, ints);
-    end = within;
-    before = (omega (arith, ints, s.low, s.asked_on, s.asked_soon, later, days.0), omega (arith, there));
+    reached = record {
+      read = omega (arith, next.1, there);
+      next_read = omega (arith, ints, next.1, there, from, number-day b days);
+      next_on = omega (arith, ints, from);
+      low = omega (arith, ints, days.0);
+      on = omega (arith, ints);
+      soon = omega (arith, ints);
+      by_end = within;
+    };
+    before = (omega (arith, ints, s.reached.low, s.reached.on, s.reached.soon, later, days.0), omega (arith, there));
     same = rw next.1 (come-none (clocks_in s.zones) s.event.now s.rule s.window (held_in s) (place_of s.cursor) (number at) bound-early next.0);
-    less = omega (arith, ints, later, within, next.1, there, s.low, days.0, (end-days s).0);
+    less = omega (arith, ints, later, within, next.1, there, s.reached.low, days.0, (end-days s).0);
   })
 
   -- the next kept local before the bound is read
   module _ (a : Local) (own : IsDayNumber a.day) {place : ℕ}
       (next : IsNextKept s.rule (place_of s.cursor) (number at) (number a) × (place ≡ number a + 1)) where
     pub one-time : IsTimeOf s.zones.zones.now (time_at s.event.now.start a)
-    one-time = record { is_time = kept-time s.event.now a s.time.is_time s.of own next.0.kept; within = s.time.within }
+    one-time = record { is_time = kept-time s.event.now a s.rule_of.time.is_time s.rule_of.of own next.0.kept; within = s.rule_of.time.within }
 
     on-day : (s.day ≤ℤ a.day) × ((a.day +ℤ pos 1) ≤ℤ b)
     on-day = (
-      omega (arith, ints, next.0.from_place, s.read, s.low, own.0, a.second_in),
+      omega (arith, ints, next.0.from_place, s.reached.read, s.reached.low, own.0, a.second_in),
       omega (arith, ints, next.0.in_bound, there, own.0, days.0, a.second_in),
     )
 
@@ -329,18 +325,20 @@ module _ (s : RuleStarts) {b : ℤ} (fits : mag b < 2_147_483_648) (later : s.da
         rw (next-back a.day own, day-back a.day own, is-new, next.1) (record {
           rises = rises-held given (start_at clocks event a) (held_in s) s.rises;
           are = λ t m. ⊎_elim
-              (held-on s.zones event s.rule s.window s.asked (a.day +ℤ pos 1) (held_in s) (omega (arith, ints, on-day.0, s.asked_soon))
+              (held-on s.zones event s.rule s.window s.asked (a.day +ℤ pos 1) (held_in s) (omega (arith, ints, on-day.0, s.reached.soon))
               (λ u j. let l = (are u j).late in omega (arith, ints, l, on-day.1)) s.are t)
               (λ i. rw i.1 (is-held s.zones event s.rule s.window a own (omega (arith, ints, own.0), omega (arith, ints, on-day.1, days.1)) i.0))
               (held-in given (start_at clocks event a) t (held_in s) m);
-          read = omega (arith, ints, own.0);
-          next_read = omega (arith, ints, from, number-seconds a own);
-          next_on = omega (arith, ints, from);
-          low = omega (arith, ints, own.0);
-          on = omega (arith, ints);
-          soon = omega (arith, ints);
-          end = omega (arith, ints, on-day.1, within);
-          before = (omega (arith, ints, s.low, s.asked_on, s.asked_soon, on-day.0, own.0), omega (arith, ints, own.0, a.second_in));
+          reached = record {
+            read = omega (arith, ints, own.0);
+            next_read = omega (arith, ints, from, number-seconds a own);
+            next_on = omega (arith, ints, from);
+            low = omega (arith, ints, own.0);
+            on = omega (arith, ints);
+            soon = omega (arith, ints);
+            by_end = omega (arith, ints, on-day.1, within);
+          };
+          before = (omega (arith, ints, s.reached.low, s.reached.on, s.reached.soon, on-day.0, own.0), omega (arith, ints, own.0, a.second_in));
           same = rw (numbered-number a own) at (come-one clocks event s.rule s.window (held_in s) s.rises bound-early kept);
-          less = omega (arith, ints, kept.from_place, kept.in_bound, there, on-day.0, on-day.1, within, s.low, own.0, days.0, (end-days s).0);
+          less = omega (arith, ints, kept.from_place, kept.in_bound, there, on-day.0, on-day.1, within, s.reached.low, own.0, days.0, (end-days s).0);
         })

@@ -4,7 +4,7 @@ use Rattle.std.specs.Prelude.{List, Option, Some, None}
 use Rattle.std.specs.Int.{int_max, int_min}
 use Rattle.std.specs.Prelude.{[], ◌∷◌}
 use Rattle.ics_fields.specs.Days.{day_index, day_numbered}
-use Rattle.ics_fields.specs.Locals.{local_at, number, midnight, whole_days}
+use Rattle.ics_fields.specs.Locals.{local_at, number, midnight, whole_days, year_number, year_seconds}
 use Rattle.ics_fields.specs.declared.local.Local.{Local}
 use Rattle.ics_rule.specs.Cursors.{looks_from, HasLooked}
 use Rattle.ics_rule.specs.Kept.{is_kept, until_moment}
@@ -118,6 +118,17 @@ abbrev pub HasLookedTo : Recurrence → Local → ℤ → Cursor → Type 0
 HasLookedTo rule from day cursor =
     (before : ℕ) → midnight_number day ≤ before
     → HasLooked rule cursor (looks_from rule.parts.count (number rule.start) (number from)) before
+
+-- All locals before a day's midnight have been read, and all whose seconds are before `next`, up to a place. The day that is not asked for yet
+-- is the day or the next, and not after the end.
+pub record IsReadTo (day asked end next : ℤ) (place : ℕ) : Type 0 where
+  pub read : midnight_number day ≤ place
+  pub next_read : (next +ℤ pos (year_number 1_970)) ≤ℤ pos place
+  pub next_on : midnight day ≤ℤ next
+  pub low : year_seconds 0 ≤ℤ midnight day
+  pub on : day ≤ℤ asked
+  pub soon : asked ≤ℤ (day +ℤ pos 1)
+  pub by_end : asked ≤ℤ end
 
 -- how many seconds and days are left to be read at most
 abbrev pub steps_left : ℤ → ℤ → ℕ → ℕ

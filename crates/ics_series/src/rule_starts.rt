@@ -1,25 +1,21 @@
 //! The starts that the rule of an event gives, read one UTC day at a time.
-ghost use Rattle.std.specs.Prelude.{◌≡◌, ◌≤◌, ◌<ℤ◌, ◌≤ℤ◌, ◌+ℤ◌, ◌-ℤ◌, ◌&&◌, pos, true, int_lt, IfOk, OnErr, OnOk, Some};
+ghost use Rattle.std.specs.Prelude.{◌≡◌, ◌≤◌, ◌<ℤ◌, ◌≤ℤ◌, ◌+ℤ◌, ◌&&◌, pos, true, int_lt, IfOk, OnErr, OnOk, Some};
 ghost use Rattle.jiff_core.specs.Calendar.{IsBetween, IsWithin};
 ghost use Rattle.ics_fields.specs.Days.{IsDayNumber};
 ghost use Rattle.ics_rule.specs.Cursors.{place_of, IsCursorOf};
-ghost use Rattle.ics_rule.specs.Kept.{is_kept, until_moment};
-ghost use Rattle.ics_fields.specs.Locals.{local_seconds, number, midnight, whole_days, year_number, year_seconds};
-ghost use Rattle.ics_series.specs.EventLaws.{time-prop};
+ghost use Rattle.ics_rule.specs.Kept.{is_kept};
+ghost use Rattle.ics_fields.specs.Locals.{number, year_number, year_seconds};
 ghost use Rattle.ics_series.specs.Found.{moment_cmp, start_at};
-ghost use Rattle.ics_series.specs.Leeway.{seconds_off};
 ghost use Rattle.ics_series.specs.Inner.Marks.{IsBegun};
 ghost use Rattle.ics_series.specs.Inner.Quiet.{beyond-prop, AreBeyond};
 ghost use Rattle.ics_series.specs.Rising.{Rises, Rises-prop};
 ghost use Rattle.ics_series.specs.Clocks.{instant};
-ghost use Rattle.ics_series.specs.RuleStarts.{ends_at, gives, lets_until, midnight_number, settled_by, with_held, AreHeld, HasLookedTo};
-ghost use Rattle.ics_series.specs.Inner.RuleStartLaws.{bounded-prop, cursor-prop, held-prop, looked-prop, rule-prop};
+ghost use Rattle.ics_series.specs.RuleStarts.{gives, lets_until, midnight_number, settled_by, with_held, AreHeld, HasLookedTo, IsReadTo};
+ghost use Rattle.ics_series.specs.Inner.RuleStartLaws.{cursor-prop, held-prop, looked-prop, read-to-prop, rule-of-prop, IsRuleOf};
 ghost use Rattle.ics_series.specs.Starts.{local_of, recurrence_of, time_at};
 ghost use Rattle.ics_series.specs.FileZones.{clocks_in, IsTimeOf};
 ghost use Rattle.ics_series.specs.Waiting.{starts_in};
 ghost use Rattle.ics_rule.specs.PeriodNumbers.{rules_end};
-ghost use Rattle.ics_series.specs.Clocks.{clock_of, IsBounded};
-ghost use Rattle.std.specs.Int.{int_min};
 
 use crate::exclusion::Exclusions;
 use crate::instant::bounds;
@@ -59,7 +55,7 @@ pub(crate) struct RuleStarts<'a> {
     held: Queue,
     /// None of the locals read so far that are at the window's end or later is before this instant.
     beyond: Moment,
-    ghost of: { recurrence_of event.now ≡ Some rule } by { rule-prop (recurrence_of event.now) (Some rule) },
+    ghost rule_of: { IsRuleOf zones event.now window rule bounds end } by { rule-of-prop zones event.now window rule bounds end },
     ghost rises: { Rises moment_cmp (starts_in event.now.start held) } by { Rises-prop moment_cmp (starts_in event.now.start held) },
     ghost are: { AreHeld (clocks_in zones) event.now rule window asked (starts_in event.now.start held) } by { held-prop (clocks_in zones) event.now rule
         window asked (starts_in event.now.start held) },
@@ -67,22 +63,8 @@ pub(crate) struct RuleStarts<'a> {
         event.now rule window (number from) (place_of cursor) beyond },
     ghost own: { IsCursorOf rule cursor } by { cursor-prop rule cursor },
     ghost looked: { HasLookedTo rule from asked cursor } by { looked-prop rule from asked cursor },
-    ghost time: { IsTimeOf zones.zones.now event.now.start } by { time-prop zones.zones.now event.now.start },
-    ghost first: { number rule.start ≡ number (local_of event.now.start.stamp) },
-    ghost read: { midnight_number day ≤ place_of cursor },
-    ghost next_read: { (next +ℤ pos (year_number 1_970)) ≤ℤ pos (place_of cursor) },
-    ghost next_on: { midnight day ≤ℤ next },
-    ghost low: { year_seconds 0 ≤ℤ midnight day },
-    ghost asked_on: { day ≤ℤ asked },
-    ghost asked_soon: { asked ≤ℤ (day +ℤ pos 1) },
-    ghost asked_end: { asked ≤ℤ end },
+    ghost reached: { IsReadTo day asked end next (place_of cursor) } by { read-to-prop day asked end next (place_of cursor) },
     ghost early: { midnight_number end ≤ rules_end },
-    ghost bounded: { IsBounded (clock_of (clocks_in zones) event.now.start) bounds } by { bounded-prop (clock_of (clocks_in zones) event.now.start) bounds },
-    ghost after: { (ends_at window (until_moment rule) (local_seconds (local_of event.now.start.stamp)) +ℤ bounds.most) ≤ℤ midnight end },
-    ghost first_before: { int_min (local_seconds (local_of event.now.start.stamp))
-        (ends_at window (until_moment rule) (local_seconds (local_of event.now.start.stamp)) -ℤ pos 1) <ℤ midnight end },
-    ghost soon: { midnight end
-        <ℤ (ends_at window (until_moment rule) (local_seconds (local_of event.now.start.stamp)) +ℤ (seconds_off event.now.start.stamp +ℤ whole_days 1)) },
 }
 
 // Whether the instant of a local is before the window's end and, unless the local is the first, not after UNTIL.

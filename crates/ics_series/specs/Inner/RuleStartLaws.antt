@@ -1,10 +1,12 @@
--- What is known of the starts of a rule while they are read has at most one proof.
-use Rattle.std.specs.Prelude.{◌≡◌, ℕ, ℤ, List, Option, None, Some}
+-- What is known of the rule of an event, and of its starts while they are read, has at most one proof.
+use Rattle.std.specs.Prelude.{◌≡◌, ◌<ℤ◌, ◌≤ℤ◌, ◌+ℤ◌, ◌-ℤ◌, ℕ, ℤ, pos, List, Option, None, Some}
+use Rattle.std.specs.Int.{int_min}
 use Rattle.std.specs.Coded.{Unit-prop, Π_prop, codes}
 use Rattle.std.proofs.Props.{props}
 use Rattle.ics_rule.specs.Cursors.{CountedBy, HasLooked, IsCursorIn, IsCursorOf}
 use Rattle.ics_rule.specs.EffectiveRules.{effective}
-use Rattle.ics_fields.specs.Locals.{number}
+use Rattle.ics_fields.specs.Locals.{local_seconds, number, midnight, whole_days}
+use Rattle.ics_rule.specs.Kept.{until_moment}
 use Rattle.ics_rule.specs.Recurrence.{Recurrence}
 use Rattle.ics_rule.specs.declared.cursor.Cursor.{Cursor}
 use Rattle.ics_rule.specs.declared.effective_rule.EffectiveRule.{EffectiveRule}
@@ -12,14 +14,19 @@ use Rattle.ics_event.specs.declared.event.Event.{Event}
 use Rattle.ics_fields.specs.declared.local.Local.{Local}
 use Rattle.ics_series.specs.declared.start.Start.{Start}
 use Rattle.ics_series.specs.declared.window.Window.{Window}
-use Rattle.ics_series.specs.Clocks.{Clock, Clocks, IsBounded}
+use Rattle.ics_series.specs.declared.zones.FileZones.{FileZones}
+use Rattle.ics_series.specs.Clocks.{clock_of, Clock, Clocks, IsBounded}
+use Rattle.ics_series.specs.EventLaws.{time-prop}
+use Rattle.ics_series.specs.FileZones.{clocks_in, IsTimeOf}
+use Rattle.ics_series.specs.Leeway.{seconds_off}
 use Rattle.ics_zone.specs.declared.bounds.Bounds.{Bounds}
-use Rattle.ics_series.specs.RuleStarts.{AreHeld, HasLookedTo, IsHeld}
+use Rattle.ics_series.specs.RuleStarts.{ends_at, AreHeld, HasLookedTo, IsHeld, IsReadTo}
+use Rattle.ics_series.specs.Starts.{local_of, recurrence_of}
 
 Start-set : (a b : Start) → IsProp (a ≡ b)
 Start-set a b = hlevel (props, codes)
 
-pub rule-prop : (a b : Option Recurrence) → IsProp (a ≡ b)
+rule-prop : (a b : Option Recurrence) → IsProp (a ≡ b)
 rule-prop a b = hlevel (props, codes)
 
 is-held-prop : (clocks : Clocks) (event : Event) (rule : Recurrence) (w : Window) (day : ℤ) (s : Start) → IsProp (IsHeld clocks event rule w day s)
@@ -46,5 +53,25 @@ pub cursor-prop : (rule : Recurrence) (cursor : Cursor) → IsProp (IsCursorOf r
 unfolding IsCursorOf
 cursor-prop rule cursor = cursor-in-prop (effective rule) (number rule.start) rule.parts.count cursor
 
-pub bounded-prop : (clock : Clock) (b : Bounds) → IsProp (IsBounded clock b)
+bounded-prop : (clock : Clock) (b : Bounds) → IsProp (IsBounded clock b)
 bounded-prop clock b = hlevel props
+
+-- the instant from which on it gives no start
+abbrev pub rule_ends : Event → Window → Recurrence → ℤ
+rule_ends event w rule = ends_at w (until_moment rule) (local_seconds (local_of event.start.stamp))
+
+-- It is the rule of the event, whose clock stays between two offsets, and no local from a day on gives a start.
+pub record IsRuleOf (zones : FileZones) (event : Event) (w : Window) (rule : Recurrence) (bounds : Bounds) (end : ℤ) : Type 0 where
+  pub of : recurrence_of event ≡ Some rule
+  pub time : IsTimeOf zones.zones.now event.start
+  pub first : number rule.start ≡ number (local_of event.start.stamp)
+  pub bounded : IsBounded (clock_of (clocks_in zones) event.start) bounds
+  pub after : (rule_ends event w rule +ℤ bounds.most) ≤ℤ midnight end
+  pub first_before : int_min (local_seconds (local_of event.start.stamp)) (rule_ends event w rule -ℤ pos 1) <ℤ midnight end
+  pub soon : midnight end <ℤ (rule_ends event w rule +ℤ (seconds_off event.start.stamp +ℤ whole_days 1))
+
+pub rule-of-prop : (zones : FileZones) (event : Event) (w : Window) (rule : Recurrence) (b : Bounds) (end : ℤ) → IsProp (IsRuleOf zones event w rule b end)
+rule-of-prop zones event w rule b end = hlevel (props, rule-prop, time-prop, bounded-prop)
+
+pub read-to-prop : (day asked end next : ℤ) (place : ℕ) → IsProp (IsReadTo day asked end next place)
+read-to-prop day asked end next place = hlevel props

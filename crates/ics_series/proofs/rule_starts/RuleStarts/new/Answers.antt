@@ -82,42 +82,46 @@ invariant_of-result c =
     let at = ap (λ (l : Local). local_seconds l) c.at.ensures in
     let next : c.seconds-next.result ≡ midnight (to_z w32 (of_z w32 c.min-day.result)) = omega (arith, ints, c.seconds-next.ensures, at) in
     record {
-      of = c.requires.rule;
+      rule_of = record {
+        of = c.requires.rule;
+        time = c.requires.event.start;
+        first = ap (λ (l : Local). number l) (rule-first c.args.event.now c.args.rule c.requires.rule);
+        bounded = subst (λ (v : Event). IsBounded (clock_of (clocks_in c.args.zones) v.start) c.bounds-bounds.result) c.event.view_is
+            c.bounds-bounds.ensures.bounded;
+        after = omega (arith, ints, end, e.after, ends, back);
+        first_before = omega (arith, ints, end, firsts, e.first);
+        soon = omega (arith, ints, end, e.soon, ends, off);
+      };
       rises = subst (Rises moment_cmp) (sym (ap (map (start_of c.args.event.now.start)) c.new.ensures)) tt;
       are = λ s m. absurd (subst (IsIn s) (ap (map (start_of c.args.event.now.start)) c.new.ensures) m);
       past_end = subst (λ place. AreBeyond (clocks_in c.args.zones) c.args.event.now c.args.rule w (number c.args.from) place _)
           (sym c.begun-begun.ensures.begun.place) (beyond-begun (clocks_in c.args.zones) c.args.event.now c.args.rule w (number c.args.from) _);
       own = c.begun-begun.ensures.begun.own;
       looked = subst (λ d. HasLookedTo c.args.rule c.args.from d c.begun-begun.result) (sym asked) c.begun-begun.ensures.looked;
-      time = c.requires.event.start;
-      first = ap (λ (l : Local). number l) (rule-first c.args.event.now c.args.rule c.requires.rule);
-      read = omega (arith, ints, c.begun-begun.ensures.begun.place, day, end, from, min, int_min_is, c.requires.from.0, c.requires.from.1, e.day.0, e.day.1);
-      next_read = omega (
-        arith,
-        ints,
-        c.begun-begun.ensures.begun.place,
-        day,
-        end,
-        from,
-        min,
-        int_min_is,
-        c.requires.from.0,
-        c.requires.from.1,
-        e.day.0,
-        e.day.1,
-        next,
-      );
-      next_on = omega (arith, ints, next);
-      low = omega (arith, ints, day, end, from, min, int_min_is, c.requires.from.0, e.day.0);
-      asked_on = omega (arith, ints, day);
-      asked_soon = omega (arith, ints, day);
-      asked_end = omega (arith, ints, day, end, from, min, int_min_is);
+      reached = record {
+        read = omega (arith, ints, c.begun-begun.ensures.begun.place, day, end, from, min, int_min_is, c.requires.from.0, c.requires.from.1, e.day.0, e.day.1);
+        next_read = omega (
+          arith,
+          ints,
+          c.begun-begun.ensures.begun.place,
+          day,
+          end,
+          from,
+          min,
+          int_min_is,
+          c.requires.from.0,
+          c.requires.from.1,
+          e.day.0,
+          e.day.1,
+          next,
+        );
+        next_on = omega (arith, ints, next);
+        low = omega (arith, ints, day, end, from, min, int_min_is, c.requires.from.0, e.day.0);
+        on = omega (arith, ints, day);
+        soon = omega (arith, ints, day);
+        by_end = omega (arith, ints, day, end, from, min, int_min_is);
+      };
       early = omega (arith, ints, end, w.not_late, most, e.day.0);
-      bounded = subst (λ (v : Event). IsBounded (clock_of (clocks_in c.args.zones) v.start) c.bounds-bounds.result) c.event.view_is
-          c.bounds-bounds.ensures.bounded;
-      after = omega (arith, ints, end, e.after, ends, back);
-      first_before = omega (arith, ints, end, firsts, e.first);
-      soon = omega (arith, ints, end, e.soon, ends, off);
     }
 
 pub returns-clause-begun : goal.returns-clause-begun

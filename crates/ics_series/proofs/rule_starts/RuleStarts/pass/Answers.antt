@@ -17,26 +17,14 @@ invariant_of-self c =
     ap (λ (ws : List Waiting). map (start_of c.args.self.now.event.now.start) ws) c.drop_first.ensures
     ∙ drop-starts c.args.self.now.event.now.start (waiting_in c.args.self.now.held) in
     record {
-      of = s.of;
+      rule_of = s.rule_of;
       rises = subst (Rises moment_cmp) (sym e) (rises-drop (held_in s) s.rises);
       are = λ t m. s.are t (in-drop t (held_in s) (subst (IsIn t) e m));
       past_end = s.past_end;
       own = s.own;
       looked = s.looked;
-      time = s.time;
-      first = s.first;
-      read = s.read;
-      next_read = s.next_read;
-      next_on = s.next_on;
-      low = s.low;
-      asked_on = s.asked_on;
-      asked_soon = s.asked_soon;
-      asked_end = s.asked_end;
+      reached = s.reached;
       early = s.early;
-      bounded = s.bounded;
-      after = s.after;
-      first_before = s.first_before;
-      soon = s.soon;
     }
 
 pub returns-then-first-start-clause-left : goal.returns-then-first-start-clause-left

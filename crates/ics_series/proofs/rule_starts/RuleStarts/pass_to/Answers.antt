@@ -10,14 +10,14 @@ use Rattle.ics_series.proofs.rule_starts.RuleStarts.pass_to.Goals as goal
 
 -- the window's end by the least offset
 end-is : (s : RuleStarts) → to_z w64 (of_z w64 (to_z w64 (of_z w64 s.window.to) +ℤ to_z w64 (of_z w64 s.bounds.least))) ≡ s.window.to +ℤ s.bounds.least
-end-is s = omega (arith, ints, s.window.ordered, s.window.not_early, s.window.not_late, s.bounded.least_short)
+end-is s = omega (arith, ints, s.window.ordered, s.window.not_early, s.window.not_late, s.rule_of.bounded.least_short)
 
 pub of_seconds-requires : goal.of_seconds-requires
 of_seconds-requires c =
     let s = c.args.self.now in
     let last = c.min-last in (
       omega (arith, ints, int_min_is, last.ensures.value, last.type_inv, c.if-self-last.true, next-years s),
-      omega (arith, ints, int_min_is, last.ensures.value, last.type_inv, end-is s, s.window.not_late, s.bounded.least_short),
+      omega (arith, ints, int_min_is, last.ensures.value, last.type_inv, end-is s, s.window.not_late, s.rule_of.bounded.least_short),
     )
 
 pub pass-requires-clause-day : goal.pass-requires-clause-day
@@ -39,29 +39,25 @@ invariant_of-self c =
     let seconds : local_seconds c.of_seconds.result ≡ to_z w64 (of_z w64 c.min-last.result) = c.of_seconds.ensures.value in
     let place = c.pass.ensures.place in
     record {
-      of = s.of;
+      rule_of = s.rule_of;
       rises = s.rises;
       are = s.are;
       past_end = beyond-passed s
           (λ n l u.
-          let moment = early-local s.zones s.event.now s.bounds s.bounded n in
+          let moment = early-local s.zones s.event.now s.bounds s.rule_of.bounded n in
           omega (arith, ints, moment, l, u, place, at, seconds, early));
       own = c.pass.ensures.own;
       looked = λ before m. c.pass.ensures.looked _ before (s.looked before m);
-      time = s.time;
-      first = s.first;
-      read = omega (arith, s.read, place);
-      next_read = omega (arith, ints, s.next_read, place, at, seconds);
-      next_on = omega (arith, ints, s.next_on, later);
-      low = s.low;
-      asked_on = s.asked_on;
-      asked_soon = s.asked_soon;
-      asked_end = s.asked_end;
+      reached = record {
+        read = omega (arith, s.reached.read, place);
+        next_read = omega (arith, ints, s.reached.next_read, place, at, seconds);
+        next_on = omega (arith, ints, s.reached.next_on, later);
+        low = s.reached.low;
+        on = s.reached.on;
+        soon = s.reached.soon;
+        by_end = s.reached.by_end;
+      };
       early = s.early;
-      bounded = s.bounded;
-      after = s.after;
-      first_before = s.first_before;
-      soon = s.soon;
     }
 
 pub returns-then-self-last : goal.returns-then-self-last

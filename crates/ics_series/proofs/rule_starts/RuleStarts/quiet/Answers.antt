@@ -21,7 +21,7 @@ settled-near (Zoned first) most local short day = omega (arith, ints, short, day
 
 pub settled_by-settled-requires-clause-most : goal.settled_by-settled-requires-clause-most
 settled_by-settled-requires-clause-most c =
-    let short = c.args.self.now.bounded.most_short in
+    let short = c.args.self.now.rule_of.bounded.most_short in
     (omega (arith, ints, short), omega (arith, ints, short))
 
 pub settled_by-settled-requires-clause-next : goal.settled_by-settled-requires-clause-next
@@ -43,13 +43,13 @@ overflow_add-after c =
     let days : SFits w32 c.quiet-next.result.day = search rules in
     let fits : SFits w64 c.seconds.result = search rules in
     let settles : SFits w64 c.settled_by-settled.result = search rules in
-    let most = most-back s.bounds.most s.bounded.most_short in
+    let most = most-back s.bounds.most s.rule_of.bounded.most_short in
     let day : to_z w32 (of_z w32 c.quiet-next.result.day) ≡ c.quiet-next.result.day = omega (arith, ints) in
     let seconds : to_z w64 (of_z w64 c.seconds.result) ≡ local_seconds c.quiet-next.result = omega (arith, ints, c.seconds.ensures) in
     let settled : c.settled_by-settled.result
     ≡ settled_by c.args.self.now.event.now.start.stamp c.args.self.now.bounds.most c.quiet-next.result.day (local_seconds c.quiet-next.result) =
     c.settled_by-settled.ensures ∙ (λ i. settled_by (c.event.view_is i).start.stamp (most i) (day i) (seconds i)) in
-    let near = settled-near s.event.now.start.stamp s.bounds.most next s.bounded.most_short c.quiet-next.ensures.day in
+    let near = settled-near s.event.now.start.stamp s.bounds.most next s.rule_of.bounded.most_short c.quiet-next.ensures.day in
     omega (arith, ints, settled, near)
 
 pub returns-in_default : goal.returns-in_default
@@ -60,13 +60,13 @@ returns-in_default c =
     let fits : SFits w64 c.seconds.result = search rules in
     let least : SFits w64 c.args.self.now.beyond = search rules in
     let settles : SFits w64 c.settled_by-settled.result = search rules in
-    let most = most-back s.bounds.most s.bounded.most_short in
+    let most = most-back s.bounds.most s.rule_of.bounded.most_short in
     let day : to_z w32 (of_z w32 c.quiet-next.result.day) ≡ c.quiet-next.result.day = omega (arith, ints) in
     let seconds : to_z w64 (of_z w64 c.seconds.result) ≡ local_seconds c.quiet-next.result = omega (arith, ints, c.seconds.ensures) in
     let settled : c.settled_by-settled.result
     ≡ settled_by c.args.self.now.event.now.start.stamp c.args.self.now.bounds.most c.quiet-next.result.day (local_seconds c.quiet-next.result) =
     c.settled_by-settled.ensures ∙ (λ i. settled_by (c.event.view_is i).start.stamp (most i) (day i) (seconds i)) in
-    let near = settled-near s.event.now.start.stamp s.bounds.most next s.bounded.most_short c.quiet-next.ensures.day in
+    let near = settled-near s.event.now.start.stamp s.bounds.most next s.rule_of.bounded.most_short c.quiet-next.ensures.day in
     quiet-by s next c.quiet-next.ensures.none c.quiet-next.ensures.day (omega (arith, ints, int_min_is, c.min.ensures)) (omega (
       arith,
       ints,

@@ -15,26 +15,14 @@ invariant_of-self-in-Break-1 c =
     let s = c.args.self.now in
     let same : starts_in c.args.self.now.event.now.start c.hold.new.held ≡ held_in c.args.self.now = search rules in
     record {
-      of = s.of;
+      rule_of = s.rule_of;
       rises = subst (Rises moment_cmp) (sym same) s.rises;
       are = subst (AreHeld (clocks_in s.zones) s.event.now s.rule s.window s.asked) (sym same) s.are;
       past_end = s.past_end;
       own = s.own;
       looked = s.looked;
-      time = s.time;
-      first = s.first;
-      read = s.read;
-      next_read = s.next_read;
-      next_on = s.next_on;
-      low = s.low;
-      asked_on = s.asked_on;
-      asked_soon = s.asked_soon;
-      asked_end = s.asked_end;
+      reached = s.reached;
       early = s.early;
-      bounded = s.bounded;
-      after = s.after;
-      first_before = s.first_before;
-      soon = s.soon;
     }
 
 pub next-requires-clause-bound : goal.next-requires-clause-bound
@@ -53,26 +41,14 @@ invariant_of-self c =
     let b = c.bound-bound in
     let r = none-read s b.type_inv b.ensures.later b.ensures.within c.at-to.ensures b.ensures.held c.in-None.ensures.next c.seconds-midnight.ensures in
     record {
-      of = s.of;
+      rule_of = s.rule_of;
       rises = r.rises;
       are = r.are;
       past_end = beyond-none s c.in-None.ensures.next;
       own = c.in-None.ensures.own;
       looked = λ before m. c.in-None.ensures.looked _ before (omega (arith, r.before, m)) (s.looked before (omega (arith, r.before, m)));
-      time = s.time;
-      first = s.first;
-      read = r.read;
-      next_read = r.next_read;
-      next_on = r.next_on;
-      low = r.low;
-      asked_on = r.on;
-      asked_soon = r.soon;
-      asked_end = r.end;
+      reached = r.reached;
       early = s.early;
-      bounded = s.bounded;
-      after = s.after;
-      first_before = s.first_before;
-      soon = s.soon;
     }
 
 pub hold-requires-clause-time : goal.hold-requires-clause-time
@@ -89,27 +65,15 @@ invariant_of-self-in-Some c =
     let moment = c.in_ok-moment-in-Some.ensures.moment in
     let fits : SFits w64 c.lesser_past-self.result = search rules in
     record {
-      of = s.of;
+      rule_of = s.rule_of;
       rises = r.rises;
       are = r.are;
       past_end = beyond-one s c.in-Some.local c.in-Some.ensures.next c.in-Some.ensures.day (omega (arith, ints, c.lesser_past-self.ensures.first))
           (λ past. let late = c.lesser_past-self.ensures.second (omega (arith, ints, past, moment)) in omega (arith, ints, late, moment));
       own = c.in-Some.ensures.own;
       looked = λ before m. c.in-Some.ensures.looked _ before (omega (arith, r.before, m)) (s.looked before (omega (arith, r.before, m)));
-      time = s.time;
-      first = s.first;
-      read = r.read;
-      next_read = r.next_read;
-      next_on = r.next_on;
-      low = r.low;
-      asked_on = r.on;
-      asked_soon = r.soon;
-      asked_end = r.end;
+      reached = r.reached;
       early = s.early;
-      bounded = s.bounded;
-      after = s.after;
-      first_before = s.first_before;
-      soon = s.soon;
     }
 
 pub returns-in-None : goal.returns-in-None

@@ -27,7 +27,7 @@ returns-in-Some c =
       on = c.pass_to.ensures.on;
       left = c.pass_to.ensures.left;
       shown = λ n l u.
-          c.in-Some.ensures (clock_of (clocks_in s.zones) s.event.now.start) s.bounded (pos n -ℤ pos (year_number 1_970))
-          (omega (arith, ints, s.next_read, l, next-years s))
+          c.in-Some.ensures (clock_of (clocks_in s.zones) s.event.now.start) s.rule_of.bounded (pos n -ℤ pos (year_number 1_970))
+          (omega (arith, ints, s.reached.next_read, l, next-years s))
           (let before = passed n l u in omega (arith, ints, before));
     }
