@@ -1,5 +1,10 @@
+ghost use Rattle.std.specs.Prelude.{◌≡◌};
+ghost use Rattle.ics_event.specs.Kept.{kept_event};
+ghost use Rattle.ics_values.specs.KeptTexts.{kept_text};
+
 use crate::time::{Length, Rdate, Time};
-use ics_values::{KeptRule, Text};
+use ics_values::{KeptRule, KeptTexts, Text};
+use std::alloc::Global;
 use std::marker::Model;
 
 /// An event of a file (RFC 5545, section 3.6.1).
@@ -67,4 +72,53 @@ impl Model for Event {
       cancelled = a.cancelled;
       url = a.url;
     }) };
+}
+
+/// The text if it is kept, or the empty one.
+fn kept_text(alloc: Global, keep: bool, text: Text) -> Text
+    ensures { result ≡ kept_text keep text }
+{
+    if keep {
+        return text;
+    }
+    drop(text);
+    Text::new(alloc)
+}
+
+impl Event {
+    /// The same event with these texts alone. The others are empty.
+    pub fn kept(self, alloc: Global, keep: KeptTexts) -> Event
+        ensures { result ≡ kept_event keep self }
+    {
+        let Event {
+            uid,
+            sequence,
+            start,
+            length,
+            rule,
+            rdates,
+            exdates,
+            recurrence,
+            title,
+            location,
+            description,
+            cancelled,
+            url,
+        } = self;
+        Event {
+            uid,
+            sequence,
+            start,
+            length,
+            rule,
+            rdates,
+            exdates,
+            recurrence,
+            title: kept_text(alloc, keep.title, title),
+            location: kept_text(alloc, keep.location, location),
+            description: kept_text(alloc, keep.description, description),
+            cancelled,
+            url: kept_text(alloc, keep.url, url),
+        }
+    }
 }

@@ -7,5 +7,5 @@ mod time;
 
 pub use event::Event;
 pub use events::FileEvents;
-pub use ics_values::{KeptRule, Text, is_zoned};
+pub use ics_values::{KeptRule, KeptTexts, Text, is_zoned};
 pub use time::{Length, Rdate, Time};

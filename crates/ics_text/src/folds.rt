@@ -27,8 +27,12 @@ pub struct FirstLine<'a> {
 }
 
 /// The first line. It is allocated only if it is folded, and passed over if it is folded and its property is not read.
-pub fn first_line<'a, R: Reads>(alloc: Global, bytes: &'a [u8]) -> Result<FirstLine<'a>, AllocError>
-    ensures found { IfOk result (λ f. (n : ℕ) → Begins R.reads n f.bytes (lines_from n bytes.now) (lines_from (n + f.breaks) f.rest.now)) }
+pub fn first_line<'a, R: Reads>(
+    alloc: Global,
+    reader: &R,
+    bytes: &'a [u8],
+) -> Result<FirstLine<'a>, AllocError>
+    ensures found { IfOk result (λ f. (n : ℕ) → Begins (R.reads reader.now) n f.bytes (lines_from n bytes.now) (lines_from (n + f.breaks) f.rest.now)) }
     ensures fewer { IfOk result (λ f. f.breaks + length f.rest.now ≤ length bytes.now) }
     ensures shorter { IfOk result (λ f. 0 < length bytes.now → length f.rest.now < length bytes.now) }
     ensures err { OnErr result ((n : ℕ) → BeginsFolded (lines_from n bytes.now)) }
@@ -42,7 +46,7 @@ pub fn first_line<'a, R: Reads>(alloc: Global, bytes: &'a [u8]) -> Result<FirstL
         });
     };
     if is_continued(after) {
-        return folded_line::<R>(alloc, line, after);
+        return folded_line(alloc, reader, line, after);
     }
     Ok(FirstLine {
         bytes: Some(LineBytes::Borrowed(line)),
@@ -54,17 +58,18 @@ pub fn first_line<'a, R: Reads>(alloc: Global, bytes: &'a [u8]) -> Result<FirstL
 /// The line that begins with this physical line, which those at the start of `after` continue. `after` begins with one.
 fn folded_line<'a, R: Reads>(
     alloc: Global,
+    reader: &R,
     first: &[u8],
     after: &'a [u8],
 ) -> Result<FirstLine<'a>, AllocError>
     requires { begins is_blank after.now ≡ true }
-    ensures found { IfOk result (λ f. (n : ℕ) → Begins R.reads n f.bytes (filter is_line (attach (line_of n first.now false) (all_from (n + 1) after.now)))
-        (lines_from (n + f.breaks) f.rest.now)) }
+    ensures found { IfOk result (λ f. (n : ℕ) → Begins (R.reads reader.now) n f.bytes
+        (filter is_line (attach (line_of n first.now false) (all_from (n + 1) after.now))) (lines_from (n + f.breaks) f.rest.now)) }
     ensures fewer { IfOk result (λ f. f.breaks + length f.rest.now ≤ length after.now + 1) }
     ensures shorter { IfOk result (λ f. length f.rest.now ≤ length after.now) }
     ensures err { OnErr result ((n : ℕ) → BeginsFolded (filter is_line (attach (line_of n first.now false) (all_from (n + 1) after.now)))) }
 {
-    if is_unread::<R>(first) {
+    if is_unread(reader, first) {
         let (rest, breaks) = pass_folds(after);
         return Ok(FirstLine {
             bytes: None,

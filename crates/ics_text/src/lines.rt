@@ -51,7 +51,7 @@ impl<'a> Lines<'a> {
         ensures unchanged { OnErr result (self.new ≡ self.old) }
         ensures only_folded { OnErr result (BeginsFolded self.old) }
     {
-        match self.next_read::<Every>(alloc)? {
+        match self.next_read(alloc, &Every)? {
             Some(ReadLine::Whole(line)) => Ok(Some(line)),
             _ => Ok(None),
         }
@@ -59,18 +59,22 @@ impl<'a> Lines<'a> {
 
     /// The next line, or None from the end on; a folded content line whose property is not read is passed over, and so not
     /// allocated. If an allocation fails, the answer is an `AllocError` and the lines still to come are unchanged.
-    pub fn next_read<R: Reads>(&mut self, alloc: Global) -> Result<Option<ReadLine<'a>>, AllocError>
-        ensures ok { IfOk result (λ line. TakesRead R.reads self.old line self.new) }
+    pub fn next_read<R: Reads>(
+        &mut self,
+        alloc: Global,
+        reader: &R,
+    ) -> Result<Option<ReadLine<'a>>, AllocError>
+        ensures ok { IfOk result (λ line. TakesRead (R.reads reader.now) self.old line self.new) }
         ensures unchanged { OnErr result (self.new ≡ self.old) }
         ensures only_folded { OnErr result (BeginsFolded self.old) }
     {
-        while !self.rest.is_empty() {
+        'lines: while !self.rest.is_empty() {
             let number = self.breaks + 1;
             let FirstLine {
                 bytes,
                 rest,
                 breaks,
-            } = first_line::<R>(alloc, self.rest)?;
+            } = first_line(alloc, reader, self.rest)?;
             self.rest = rest;
             self.breaks += breaks;
             let Some(bytes) = bytes else {

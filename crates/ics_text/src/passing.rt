@@ -11,11 +11,11 @@ use crate::physical::{cut_line, is_continued};
 use crate::reads::Reads;
 
 /// Whether a line is a content line whose property is not read.
-pub fn is_unread<R: Reads>(line: &[u8]) -> bool
-    ensures { IsTrue result → IsUnread R.reads line.now }
+pub fn is_unread<R: Reads>(reader: &R, line: &[u8]) -> bool
+    ensures { IsTrue result → IsUnread (R.reads reader.now) line.now }
 {
     let name = &line[..name_len(line)];
-    !R::is_read(name) && content(line).is_ok()
+    !reader.is_read(name) && content(line).is_ok()
 }
 
 /// Passes over the physical lines at the start of `after` that continue the one before them. Answers the bytes behind them, and the

@@ -6,11 +6,11 @@ pub trait Reads {
     ghost use Rattle.std.specs.Prelude.{ℕ, Bool, List};
 
     /// Whether a property of that name is read.
-    ghost reads: { List ℕ → Bool };
+    ghost reads: { Self → List ℕ → Bool };
 
     /// Whether a property of that name is read.
-    fn is_read(name: &[u8]) -> bool
-        ensures { result ≡ reads name.now };
+    fn is_read(&self, name: &[u8]) -> bool
+        ensures { result ≡ reads self.now name.now };
 }
 
 /// Reads every property.
@@ -19,9 +19,9 @@ pub struct Every;
 impl Reads for Every {
     ghost use Rattle.std.specs.Prelude.{true};
 
-    ghost reads = { λ _. true };
+    ghost reads = { λ _ _. true };
 
-    fn is_read(_name: &[u8]) -> bool {
+    fn is_read(&self, _name: &[u8]) -> bool {
         true
     }
 }

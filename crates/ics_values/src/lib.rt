@@ -8,6 +8,7 @@ mod duration;
 mod halves;
 mod integer;
 mod kept_rule;
+mod kept_texts;
 mod laws;
 mod observance;
 mod offset;
@@ -30,6 +31,7 @@ pub use ics_fields::{
 };
 pub use integer::{IntegerFault, read_integer};
 pub use kept_rule::KeptRule;
+pub use kept_texts::KeptTexts;
 pub use laws::{dates_of_the_calendar, escapes_undone, times_of_a_day};
 pub use observance::{Observance, are_same_observances};
 pub use offset::{BadOffset, read_offset};

@@ -20,5 +20,5 @@ returns-then-is_continued-clause-found g c =
     λ n.
     let all = all_from-front n c.args.bytes.now c.cut_line.result.0.now c.in-Some.after.now cut in
     ap (filter is_line) (rw (sym c.is_continued.ensures ∙ c.if-is_continued.true) at all) in
-    begins-there g.R.Reads.reads c.folded_line.result (λ n. lines_from n c.args.bytes.now)
+    begins-there (g.R.Reads.reads c.args.reader.now) c.folded_line.result (λ n. lines_from n c.args.bytes.now)
     (λ n. filter is_line (attach (line_of n line false) (all_from (n + 1) after))) front c.folded_line.ensures.found
