@@ -43,3 +43,4 @@ pub mod FrontLists
 pub mod FrontSteps
 pub mod FrontParts
 pub mod FrontedWhole
+pub mod KeptPass

@@ -3,17 +3,22 @@ use Rattle.std.proofs.Common.{◌≡◌, ℕ, Bool, true, false, cond, List, [],
 use Rattle.std.specs.Prelude.{None, Some}
 use Rattle.ics_text.specs.ContentLines.{Parts, content_of}
 use Rattle.ics_text.specs.Unfolded.{Line, begins_with_fold, unfolded}
+use Rattle.ics_values.specs.KeptTexts.{all_texts}
+use Rattle.ics_values.specs.declared.kept_texts.KeptTexts.{KeptTexts}
 use Rattle.ics_components.specs.declared.fault.Fault.{Fault}
 use Rattle.ics_components.specs.declared.fault.FileFault.{FileFault}
 use Rattle.ics_components.specs.declared.fault.FileFault.TheVariants.{At}
 use Rattle.ics_components.specs.declared.fault.FileFault.TheVariants as file_fault
 use Rattle.ics_components.specs.declared.first_round.FirstRound.{FirstRound}
+use Rattle.ics_components.specs.declared.name.Name.{Name}
 use Rattle.ics_components.specs.declared.refused.Refused.{Refused}
 use Rattle.ics_components.specs.declared.refused.Refused.TheVariants as refused
 use Rattle.ics_components.specs.FirstFault.{bad_fold}
 use Rattle.ics_components.specs.Fronts.{IsFrontOf}
 use Rattle.ics_components.specs.FrontSeen.{FrontSeen, no_front}
 use Rattle.ics_components.specs.Inner.FrontedRound.{IsReadOf, IsReadTo}
+use Rattle.ics_components.specs.Inner.KeptPass.{GoesBehind, kept_pass}
+use Rattle.ics_components.specs.Inner.Known.{read_name}
 use Rattle.ics_components.specs.Inner.Passing.{ReadsOn}
 use Rattle.ics_components.specs.Inner.PartsPass.{here}
 use Rattle.ics_components.specs.Lines.{Leaves, behind, fault_on, passing}
@@ -23,17 +28,32 @@ use Rattle.ics_components.specs.Parted.{LinesRead, Reads, read_behind, read_on}
 use Rattle.ics_components.specs.Pass.{bottom, parsed_of, pass}
 use Rattle.ics_components.specs.PlacedLines.{Placed, Open, named, path_behind, placed_from}
 use Rattle.ics_components.proofs.Blocks.{read-append}
+use Rattle.ics_components.proofs.PassedLines.{read-whole}
 
 -- one line
-pub reads_there : (line : Line) (parts : Parts) (round next : FirstRound) → content_of line.bytes ≡ Some parts →
-    fault_on (named parts) parts round.stack ≡ None → next.stack ≡ behind line.number (named parts) parts round.stack →
-    next.parsed ≡ and_line line.number (passing (named parts) parts round.stack) round.parsed → ReadsOn (Ok tt) line round next
-reads_there line parts round next is sound stack parsed = rw (is, sound) (λ i. Reads (sym stack i) (sym parsed i))
+pub goes_there : (keep : KeptTexts) (line : Line) (parts : Parts) (round next : FirstRound) → content_of line.bytes ≡ Some parts →
+    fault_on (read_name keep parts) parts round.stack ≡ None → next.stack ≡ behind line.number (read_name keep parts) parts round.stack →
+    next.parsed ≡ and_line line.number (passing (read_name keep parts) parts round.stack) round.parsed → next.last ≡ Some line.number →
+    GoesBehind keep (Ok tt) line round next
+goes_there keep line parts round next is sound stack parsed last = λ lines.
+    rw (is, sound) (λ i. kept_pass keep (sym stack i) (sym last i) (sym parsed i) lines)
 
-pub reads_refused : (why : Refused) (line : Line) (round next : FirstRound) → Leaves (Err why) round.parsed next.parsed →
-    ReadsOn (Err why) line round next
-reads_refused refused.Memory line round next kept = tt
-reads_refused (refused.Fault kind) line round next kept = kept
+read-as : (n : Name) (line : Line) (parts : Parts) (round next : FirstRound) → named parts ≡ n → content_of line.bytes ≡ Some parts →
+    fault_on n parts round.stack ≡ None → next.stack ≡ behind line.number n parts round.stack →
+    next.parsed ≡ and_line line.number (passing n parts round.stack) round.parsed →
+    read_on line.number (content_of line.bytes) (Reads round.stack round.parsed) ≡ Reads next.stack next.parsed
+read-as n line parts round next own is sound stack parsed = rw (is, own, sound) (λ i. Reads (sym stack i) (sym parsed i))
+
+pub reads_there : (keep : KeptTexts) (line : Line) (parts : Parts) (round next : FirstRound) → content_of line.bytes ≡ Some parts →
+    fault_on (read_name keep parts) parts round.stack ≡ None → next.stack ≡ behind line.number (read_name keep parts) parts round.stack →
+    next.parsed ≡ and_line line.number (passing (read_name keep parts) parts round.stack) round.parsed → ReadsOn keep (Ok tt) line round next
+reads_there keep line parts round next is sound stack parsed = λ all.
+    read-as (read_name keep parts) line parts round next (sym (read-whole keep parts all)) is sound stack parsed
+
+pub reads_refused : (keep : KeptTexts) (why : Refused) (line : Line) (round next : FirstRound) → Leaves (Err why) round.parsed next.parsed →
+    ReadsOn keep (Err why) line round next
+reads_refused keep refused.Memory line round next kept = tt
+reads_refused keep (refused.Fault kind) line round next kept = kept
 
 -- from these lines on, of which the last are to come
 pub record HasRead (path : List Open) (lines rest : List Line) (round now : FirstRound) : Type 0 where
@@ -46,7 +66,8 @@ pub begun : (path : List Open) (lines : List Line) (round : FirstRound) → HasR
 begun path lines round = record { before = []; there = path; parts = refl; reads = refl }
 
 pub one-further : (path : List Open) (lines rest : List Line) (line : Line) (round now next : FirstRound) →
-    HasRead path lines (line ∷ rest) round now → ReadsOn (Ok tt) line now next → HasRead path lines rest round next
+    HasRead path lines (line ∷ rest) round now →
+    read_on line.number (content_of line.bytes) (Reads now.stack now.parsed) ≡ Reads next.stack next.parsed → HasRead path lines rest round next
 one-further path lines rest line round now next has on =
     let at : Placed = here line.number (content_of line.bytes) has.there in
     record {
@@ -69,18 +90,18 @@ read-of path lines rest round now had has e = record {
   reads = has.reads ∙ ap (Reads now.stack) (sym e);
 }
 
-pub read-to : (result : Result Unit FileFault) (lines : List Placed) (round now : FirstRound) → IsReadOf lines round now.parsed →
-    IsReadTo result lines round now
-read-to (Ok done) lines round now is = tt
-read-to (Err file_fault.Memory) lines round now is = tt
-read-to (Err (At line kind)) lines round now is = is
+pub read-to : (keep : KeptTexts) (result : Result Unit FileFault) (lines : List Placed) (round now : FirstRound) →
+    (keep ≡ all_texts → IsReadOf lines round now.parsed) → IsReadTo keep result lines round now
+read-to keep (Ok done) lines round now is = tt
+read-to keep (Err file_fault.Memory) lines round now is = tt
+read-to keep (Err (At line kind)) lines round now is = is
 
--- the first fault of a file that begins with no fold
-pub read-fault : (bytes : List ℕ) (fault : Fault) → (begins_with_fold bytes ≡ true → ⊥) →
-    pass (bottom ∷ []) None nothing_parsed (unfolded bytes) ≡ Err fault → parsed_of bytes ≡ Err fault
-read-fault bytes fault plain e = by_test (begins_with_fold bytes) plain
+-- what the pass says of a file that begins with no fold
+pub read-said : (bytes : List ℕ) (said : Result ParsedFileSeen Fault) → (begins_with_fold bytes ≡ true → ⊥) →
+    pass (bottom ∷ []) None nothing_parsed (unfolded bytes) ≡ said → parsed_of bytes ≡ said
+read-said bytes said plain e = by_test (begins_with_fold bytes) plain
   where
-    by_test : (t : Bool) → (t ≡ true → ⊥) → cond t (Err bad_fold) (pass (bottom ∷ []) None nothing_parsed (unfolded bytes)) ≡ Err fault
+    by_test : (t : Bool) → (t ≡ true → ⊥) → cond t (Err bad_fold) (pass (bottom ∷ []) None nothing_parsed (unfolded bytes)) ≡ said
     by_test false plain = e
     by_test true plain = absurd (plain refl)
 

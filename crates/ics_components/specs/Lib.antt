@@ -19,4 +19,5 @@ pub mod Pass
 pub mod Parted
 pub mod FrontSeen
 pub mod Fronts
+pub mod Kept
 pub mod Inner

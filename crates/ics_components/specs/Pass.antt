@@ -15,9 +15,6 @@ use Rattle.ics_components.specs.FirstFault.{bad_fold}
 use Rattle.ics_components.specs.ParsedFiles.{nothing_parsed, and_line}
 use Rattle.ics_components.specs.Lines.{fault_on, behind, passing}
 use Rattle.ics_components.specs.PlacedLines.{named}
-use Rattle.ics_components.specs.declared.first_round.FirstRound.{FirstRound}
-use Rattle.ics_components.specs.declared.refused.Refused.{Refused}
-use Rattle.ics_components.specs.declared.refused.Refused.TheVariants as refused
 
 -- below all components
 abbrev pub bottom : Frame
@@ -55,17 +52,6 @@ pass frames last had (line ∷ lines) = on_content line.number (content_of line.
 -- What the first round gathers of a file, or its first fault.
 abbrev pub parsed_of : List ℕ → Result ParsedFileSeen Fault
 parsed_of file = if begins_with_fold file then Err bad_fold else pass (bottom ∷ []) None nothing_parsed (unfolded file)
-
--- the pass over the lines that are left
-abbrev pub pass_on : FirstRound → List Line → Result ParsedFileSeen Fault
-pass_on round lines = pass round.stack round.last round.parsed lines
-
--- ONE LINE: the pass goes on behind it, or its fault is the answer.
-abbrev pub GoesBehind : Result Unit Refused → Line → FirstRound → FirstRound → Type 0
-GoesBehind (Ok taken) line round behind = (lines : List Line) → pass_on round (line ∷ lines) ≡ pass_on behind lines
-GoesBehind (Err refused.Memory) line round behind = Unit {0}
-GoesBehind (Err (refused.Fault kind)) line round behind = (lines : List Line) →
-    pass_on round (line ∷ lines) ≡ Err (record { line = line.number; kind = kind })
 
 -- AN ANSWER, as it is seen: what is gathered, or the first fault, or that memory is refused.
 abbrev pub Says : {X Y : Type 0} → (X → Y) → Result X FileFault → Result Y Fault → Type 0

@@ -1,23 +1,27 @@
 //! The first round over the lines of a file (RFC 5545, sections 3.4 and 3.6).
-ghost use Rattle.std.specs.Prelude.{◌≡◌, ℕ, ◌+◌, ◌<◌, ◌≤◌, ◌^◌, List, [], length, IfOk, Some, IfSome};
+ghost use Rattle.std.specs.Prelude.{◌≡◌, ℕ, ◌+◌, ◌<◌, ◌≤◌, ◌^◌, List, length, IfOk, Some, IfSome};
 ghost use Rattle.ics_text.specs.Passing.{IsPassed};
 ghost use Rattle.ics_text.specs.ReadLines.{TakesRead};
 ghost use Rattle.ics_text.specs.Unfolded.{Line, Within};
 ghost use Rattle.ics_components.specs.Fronts.{IsFirstRead};
 ghost use Rattle.ics_components.specs.Inner.FrontedRound.{IsReadTo};
-ghost use Rattle.ics_components.specs.Inner.Known.{is_known};
+ghost use Rattle.ics_components.specs.Inner.KeptPass.{pass_on, GoesBehind};
+ghost use Rattle.ics_components.specs.Inner.Known.{is_kept};
+ghost use Rattle.ics_components.specs.Kept.{SaysKept};
 ghost use Rattle.ics_components.specs.PlacedLines.{Open, placed_from};
-ghost use Rattle.ics_components.specs.Pass.{pass_on, GoesBehind, parsed_of, Says};
+ghost use Rattle.ics_components.specs.Pass.{at_end, parsed_of, unless, Says};
 ghost use Rattle.ics_components.specs.Inner.Passing.{GoesOn, ReadsOn};
 ghost use Rattle.ics_components.specs.ParsedFiles.{IsSoundParsed};
 
 use crate::fault::{Fault, FaultKind, FileFault};
 use crate::front::Front;
 use crate::known::Known;
+use crate::name::{kept_as, name_of};
 use crate::parsed_file::ParsedFile;
 use crate::refused::Refused;
 use crate::stack::Stack;
 use ics_text::{Lines, Logical, ReadLine, content, numbers_within};
+use ics_values::KeptTexts;
 use std::alloc::{AllocError, Global};
 
 /// The first round behind some lines: the components that are open, what is gathered, and the number of the last line.
@@ -29,25 +33,28 @@ struct FirstRound {
 }
 
 impl FirstRound {
-    /// Takes one line, or answers its fault.
-    #[tactic(auto, using(crate::proofs::ReadTo::reads_there, crate::proofs::ReadTo::reads_refused))]
-    fn line(&mut self, alloc: Global, line: &Logical<'_>) -> Result<(), Refused>
-        ensures behind { GoesBehind result line.now self.old self.new }
-        ensures reads { ReadsOn result line.now self.old self.new }
+    /// Takes one line, or answers its fault. A text that is not kept is taken for a property that is not read.
+    #[tactic(auto, using(crate::proofs::ReadTo::goes_there, crate::proofs::ReadTo::reads_there, crate::proofs::ReadTo::reads_refused))]
+    fn line(&mut self, alloc: Global, keep: KeptTexts, line: &Logical<'_>) -> Result<(), Refused>
+        ensures behind { GoesBehind keep result line.now self.old self.new }
+        ensures reads { ReadsOn keep result line.now self.old self.new }
         ensures last { IfOk result (λ _. self.new.last ≡ Some line.now.number) }
     {
         let number = line.number();
         let Ok(parts) = content(line.bytes()) else {
             return Err(Refused::Fault(FaultKind::BadLine));
         };
-        self.stack.line(alloc, &mut self.parsed, number, &parts)?;
+        let name = kept_as(keep, name_of(parts.name()));
+        self.stack
+            .named_line(alloc, &mut self.parsed, number, name, &parts)?;
         self.last = Some(number);
         Ok(())
     }
 
     /// Passes over the line with that number, whose property is not read.
     fn pass_over(&mut self, number: u64) -> Result<(), Refused>
-        ensures { (lines rest : List Line) → IsPassed is_known number lines rest → GoesOn result number lines rest self.old self.new }
+        ensures { (keep : KeptTexts) (lines rest : List Line) → IsPassed (is_kept keep) number lines rest
+            → GoesOn keep result number lines rest self.old self.new }
     {
         match self.stack.pass_over() {
             Ok(()) => {
@@ -59,15 +66,20 @@ impl FirstRound {
     }
 
     /// Takes the next line, and answers its number.
-    fn take(&mut self, alloc: Global, line: ReadLine<'_>) -> (u64, Result<(), Refused>)
-        ensures { (lines rest : List Line) → TakesRead is_known lines (Some line.entry) rest
-            → GoesOn result.1 result.0 lines rest self.old self.new }
+    fn take(
+        &mut self,
+        alloc: Global,
+        keep: KeptTexts,
+        line: ReadLine<'_>,
+    ) -> (u64, Result<(), Refused>)
+        ensures { (lines rest : List Line) → TakesRead (is_kept keep) lines (Some line.entry) rest
+            → GoesOn keep result.1 result.0 lines rest self.old self.new }
     {
         match line {
             ReadLine::PassedOver(number) => (number, self.pass_over(number)),
             ReadLine::Whole(line) => {
                 let number = line.number();
-                let taken = self.line(alloc, &line);
+                let taken = self.line(alloc, keep, &line);
                 drop(line);
                 (number, taken)
             }
@@ -77,7 +89,7 @@ impl FirstRound {
     /// The fault that stands where the lines end, if there is one.
     fn end(&self) -> Result<(), FileFault>
         requires { IfSome self.now.last (λ n. n + 1 < 2 ^ 64) }
-        ensures { Says (λ _. self.now.parsed) result (pass_on self.now []) }
+        ensures { Says (λ _. self.now.parsed) result (unless (at_end self.now.stack self.now.last) self.now.parsed) }
     {
         let (line, kind) = match self.last {
             None => (1, FaultKind::NotCalendar),
@@ -88,14 +100,19 @@ impl FirstRound {
     }
 
     /// Takes the lines up to the first that has a fault. The fault that it answers may stand where they end.
-    fn lines(&mut self, alloc: Global, mut lines: Lines<'_>) -> Result<(), FileFault>
+    fn lines(
+        &mut self,
+        alloc: Global,
+        keep: KeptTexts,
+        mut lines: Lines<'_>,
+    ) -> Result<(), FileFault>
         requires lines { (n : ℕ) × (n + 1 < 2 ^ 64) × Within n lines }
         requires last { IfSome self.old.last (λ n. n + 1 < 2 ^ 64) }
-        ensures says { Says (λ _. self.new.parsed) result (pass_on self.old lines.entry) }
-        ensures front { (path : List Open) → IsReadTo result (placed_from path lines.entry) self.old self.new }
+        ensures says { Says (λ _. self.new.parsed) result (pass_on keep self.old lines.entry) }
+        ensures front { (path : List Open) → IsReadTo keep result (placed_from path lines.entry) self.old self.new }
     {
-        'lines: while let Some(line) = lines.next_read::<Known>(alloc)? {
-            let (number, taken) = self.take(alloc, line);
+        'lines: while let Some(line) = lines.next_read(alloc, &Known { keep })? {
+            let (number, taken) = self.take(alloc, keep, line);
             match taken {
                 Ok(()) => {}
                 Err(Refused::Memory) => return Err(FileFault::Memory),
@@ -106,18 +123,19 @@ impl FirstRound {
     }
 }
 
-/// What the first round reads: a file without a fault, or its first fault and the events before it.
+/// What the first round reads: a file without a fault, or its first fault and the events before it. Texts that are not kept are left out.
 #[derive(Drop)]
 pub enum FirstRead {
     Whole(ParsedFile),
     Faulty(Fault, Front),
 }
 
-/// What the first round gathers of a file of at most 16,777,216 bytes, or the first fault of that round and the events before it.
+/// What the first round gathers of a file of at most 16,777,216 bytes, or the first fault of that round and the events before it. Of the texts of events those
+/// are kept that `keep` names.
 #[inline(never)]
-pub fn read_first(alloc: Global, bytes: &[u8]) -> Result<FirstRead, AllocError>
+pub fn read_first(alloc: Global, keep: KeptTexts, bytes: &[u8]) -> Result<FirstRead, AllocError>
     requires { length bytes.now ≤ 16_777_216 }
-    ensures { IfOk result (IsFirstRead bytes.now) }
+    ensures { IfOk result (IsFirstRead keep bytes.now) }
 {
     numbers_within();
     let Ok(lines) = Lines::new(bytes) else {
@@ -132,7 +150,7 @@ pub fn read_first(alloc: Global, bytes: &[u8]) -> Result<FirstRead, AllocError>
         parsed: ParsedFile::new(alloc),
         last: None,
     };
-    let read = round.lines(alloc, lines);
+    let read = round.lines(alloc, keep, lines);
     let FirstRound { stack, parsed, .. } = round;
     drop(stack);
     match read {
@@ -148,14 +166,15 @@ pub fn read_first(alloc: Global, bytes: &[u8]) -> Result<FirstRead, AllocError>
 ///
 /// The fault is the one on the least line and, if that has several, of the least kind; the faults of zones and of instants are left to the deferred
 /// checks. What is gathered is sound: its stamps are in the years 0001 to 9899, each of its time zones has an observance, no rule of which is finer than
-/// daily, and a check is deferred for each time zone that a stamp of an event names. `Memory` if an allocation fails.
+/// daily, and a check is deferred for each time zone that a stamp of an event names. Of the texts of events those are kept that `keep` names. `Memory` if
+/// an allocation fails.
 #[inline(never)]
-pub fn parse_file(alloc: Global, bytes: &[u8]) -> Result<ParsedFile, FileFault>
+pub fn parse_file(alloc: Global, keep: KeptTexts, bytes: &[u8]) -> Result<ParsedFile, FileFault>
     requires { length bytes.now ≤ 16_777_216 }
-    ensures parsed { Says (λ parsed. parsed) result (parsed_of bytes.now) }
+    ensures parsed { SaysKept keep result (parsed_of bytes.now) }
     ensures sound { IfOk result IsSoundParsed }
 {
-    match read_first(alloc, bytes) {
+    match read_first(alloc, keep, bytes) {
         Ok(FirstRead::Whole(parsed)) => Ok(parsed),
         Ok(FirstRead::Faulty(Fault { line, kind }, front)) => {
             drop(front);

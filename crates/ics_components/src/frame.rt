@@ -65,7 +65,7 @@ impl Frame {
 
     /// One line more that begins and ends no component. The check that it leaves to the second round is added with the number of the line.
     ///
-    /// A check takes much room, so this stands apart from `Stack::line`, which passes without it what is not read.
+    /// A check takes much room, so this stands apart from `Stack::named_line`, which passes without it what is not read.
     #[inline(never)]
     #[tactic(auto, using(crate::proofs::Judgements::leaves_same), unfolding(crate::specs::Lines::least_fault))]
     pub fn line(

@@ -4,6 +4,9 @@ ghost use Rattle.std.specs.Str.{bytes_eq};
 ghost use Rattle.ics_text.specs.Bytes.{upper};
 ghost use Rattle.ics_components.specs.Names.{name_of, named_in, other_words};
 ghost use Rattle.ics_components.specs.declared.name.Name.TheVariants.{Other};
+ghost use Rattle.ics_components.specs.Inner.Known.{kept_name};
+
+use ics_values::KeptTexts;
 
 /// The names that a file is read for.
 #[derive(Clone, Copy)]
@@ -96,5 +99,18 @@ fn other_name_of(name: &[u8]) -> Name
         Name::OffsetTo
     } else {
         Name::Other
+    }
+}
+
+/// The name by which a property is read; that of a text that is not kept is none that a file is read for.
+pub fn kept_as(keep: KeptTexts, name: Name) -> Name
+    ensures { result ≡ kept_name keep name }
+{
+    match name {
+        Name::Summary if !keep.title => Name::Other,
+        Name::Location if !keep.location => Name::Other,
+        Name::Description if !keep.description => Name::Other,
+        Name::Url if !keep.url => Name::Other,
+        _ => name,
     }
 }

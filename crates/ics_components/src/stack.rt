@@ -6,7 +6,6 @@ ghost use Rattle.ics_components.specs.declared.component.Component.TheVariants a
 ghost use Rattle.ics_components.specs.declared.name.Name.TheVariants.{Begin, End, Other};
 ghost use Rattle.ics_components.specs.ParsedFiles.{and_line};
 ghost use Rattle.ics_components.specs.Lines.{Keeps, Leaves, fault_on, behind, closed, passing};
-ghost use Rattle.ics_components.specs.PlacedLines.{named};
 ghost use Rattle.ics_components.specs.Pass.{bottom, is_lowest};
 ghost use Rattle.ics_components.specs.Inner.PassedLines.{Passes};
 
@@ -14,7 +13,7 @@ use crate::builder::Builder;
 use crate::component::{Component, Context};
 use crate::fault::FaultKind;
 use crate::frame::Frame;
-use crate::name::{Name, name_of};
+use crate::name::Name;
 use crate::parsed_file::ParsedFile;
 use crate::refused::Refused;
 use crate::tzid::Tzids;
@@ -100,7 +99,7 @@ impl Stack {
 
     /// Opens the component that begins on the line with that number.
     ///
-    /// What begins or ends takes much room, so this and `end` stand apart from `line`, which most lines pass without either.
+    /// What begins or ends takes much room, so this and `end` stand apart from `named_line`, which most lines pass without either.
     #[inline(never)]
     #[tactic(auto, unfolding(crate::specs::Lines::least_fault))]
     fn begin(&mut self, alloc: Global, number: u64, content: &Content<'_>) -> Result<(), Refused>
@@ -156,7 +155,7 @@ impl Stack {
 
     /// Judges a line whose property is not read.
     pub fn pass_over(&self) -> Result<(), Refused>
-        ensures { (number : ℕ) (content : Parts) → Other ≡ named content → Passes result number content self.now }
+        ensures { (number : ℕ) (content : Parts) → Passes result number Other content self.now }
     {
         if self.outer.is_empty() {
             return Err(Refused::Fault(FaultKind::NotCalendar));
@@ -164,23 +163,7 @@ impl Stack {
         Ok(())
     }
 
-    /// Goes behind the line with that number, and adds what is gathered there.
-    pub fn line(
-        &mut self,
-        alloc: Global,
-        parsed: &mut ParsedFile,
-        number: u64,
-        content: &Content<'_>,
-    ) -> Result<(), Refused>
-        ensures open { Keeps result self.new (fault_on (named content.now) content.now self.old) (behind number (named content.now) content.now self.old) }
-        ensures parsed { IfOk result (λ _. parsed.new ≡ and_line number (passing (named content.now) content.now self.old) parsed.old) }
-        ensures kept { Leaves result parsed.old parsed.new }
-    {
-        let name = name_of(content.name());
-        self.named_line(alloc, parsed, number, name, content)
-    }
-
-    /// The same. The name of the line is known.
+    /// Goes behind the line with that number, which is read by that name, and adds what is gathered there.
     #[tactic(auto, using(crate::proofs::Judgements::outside_line, crate::proofs::Judgements::leaves_same))]
     pub fn named_line(
         &mut self,
@@ -190,9 +173,8 @@ impl Stack {
         name: Name,
         content: &Content<'_>,
     ) -> Result<(), Refused>
-        requires { name ≡ named content.now }
-        ensures open { Keeps result self.new (fault_on (named content.now) content.now self.old) (behind number (named content.now) content.now self.old) }
-        ensures parsed { IfOk result (λ _. parsed.new ≡ and_line number (passing (named content.now) content.now self.old) parsed.old) }
+        ensures open { Keeps result self.new (fault_on name content.now self.old) (behind number name content.now self.old) }
+        ensures parsed { IfOk result (λ _. parsed.new ≡ and_line number (passing name content.now self.old) parsed.old) }
         ensures kept { Leaves result parsed.old parsed.new }
     {
         match name {

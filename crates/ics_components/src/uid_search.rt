@@ -105,7 +105,7 @@ impl UidSearch {
     fn over_all(&mut self, alloc: Global, mut lines: Lines<'_>) -> Result<bool, AllocError>
         ensures { IfOk result (λ bare. bare ≡ bare_over self.old.path (placed_from self.old.path lines.entry)) }
     {
-        'lines: while let Some(line) = lines.next_read::<Sought>(alloc)? {
+        'lines: while let Some(line) = lines.next_read(alloc, &Sought)? {
             let bare = self.take_next(alloc, line)?;
             if !bare {
                 return Ok(false);

@@ -1,6 +1,8 @@
 -- The parts' round over the lines of a front: no event of them is read again.
 use Rattle.std.specs.Prelude.{◌≡◌, ℕ, Bool, true, false, not, ◌||◌, List, [], ◌∷◌, ◌++◌, Option, Some, None, Result, Ok, Err, if◌then◌else◌, option_map}
 use Rattle.std.specs.Option.{option_or}
+use Rattle.ics_values.specs.KeptTexts.{all_texts}
+use Rattle.ics_values.specs.declared.kept_texts.KeptTexts.{KeptTexts}
 use Rattle.ics_components.specs.declared.fault.Fault.{Fault}
 use Rattle.ics_components.specs.declared.fault.FaultKind.TheVariants.{BadLine}
 use Rattle.ics_components.specs.declared.fault.FileFault.{FileFault}
@@ -16,7 +18,7 @@ use Rattle.ics_components.specs.ParsedFileSeen.{ParsedFileSeen}
 use Rattle.ics_components.specs.Parted.{Broken, LinesRead, PartedComponentSeen, PartedFileSeen, Reads, read_behind}
 use Rattle.ics_components.specs.PlacedLines.{Placed, path_behind}
 
--- At a fault, what the first round has gathered is what it reads of the lines before some of these lines.
+-- At a fault, what the first round has gathered is what it reads of the lines before some of these lines, where all texts are kept.
 pub record IsReadOf (lines : List Placed) (round : FirstRound) (had : ParsedFileSeen) : Type 0 where
   pub before : List Placed
   pub behind : List Placed
@@ -24,10 +26,10 @@ pub record IsReadOf (lines : List Placed) (round : FirstRound) (had : ParsedFile
   pub frames : List Frame
   pub reads : read_behind (Reads round.stack round.parsed) before ≡ Reads frames had
 
-abbrev pub IsReadTo : Result Unit FileFault → List Placed → FirstRound → FirstRound → Type 0
-IsReadTo (Ok done) lines round now = Unit {0}
-IsReadTo (Err Memory) lines round now = Unit {0}
-IsReadTo (Err (At line kind)) lines round now = IsReadOf lines round now.parsed
+abbrev pub IsReadTo : KeptTexts → Result Unit FileFault → List Placed → FirstRound → FirstRound → Type 0
+IsReadTo keep (Ok done) lines round now = Unit {0}
+IsReadTo keep (Err Memory) lines round now = Unit {0}
+IsReadTo keep (Err (At line kind)) lines round now = keep ≡ all_texts → IsReadOf lines round now.parsed
 
 -- THE PARTS' ROUND WITH A FRONT, as long as that has events. Their lines are not read: the reader stands still.
 abbrev pub still : LinesRead
