@@ -43,3 +43,4 @@ pub mod UnknownInParts
 pub mod FaultlessLines
 pub mod NamesForParts
 pub mod SummedUids
+pub mod KeptFiles

@@ -6,6 +6,7 @@ use Rattle.ics_components.specs.declared.fault.FileFault.{FileFault}
 use Rattle.ics_components.specs.declared.fault.FileFault.TheVariants.{Memory, At}
 use Rattle.ics_calendar.specs.UnresolvedFiles.{IsFaultOf, IsFirstOf}
 use Rattle.ics_event.specs.Event.{FileSaid}
+use Rattle.ics_values.specs.declared.kept_texts.KeptTexts.{KeptTexts}
 use Rattle.ics_components.specs.Faults.{stands}
 use Rattle.ics_calendar.specs.LaterFaults.{stands_later}
 use Rattle.ics_calendar.specs.GivenFiles.{GivenFiles}
@@ -15,7 +16,8 @@ use Rattle.ics_calendar.specs.Files.{later_fault, UnresolvedSaid, IsFile, file_o
 use Rattle.ics_calendar.specs.Settled.{unresolved_by, known_in}
 use Rattle.ics_components.specs.ParsedFiles.{nothing_parsed}
 use Rattle.ics_components.specs.ParsedFileSeen.{ParsedFileSeen}
-use Rattle.ics_components.specs.Pass.{pass, bottom, parsed_of, unless, Says}
+use Rattle.ics_components.specs.Kept.{SaysKept}
+use Rattle.ics_components.specs.Pass.{pass, bottom, parsed_of, unless}
 use Rattle.ics_components.specs.PlacedLines.{placed}
 use Rattle.ics_calendar.specs.Wanted.{zones_with}
 use Rattle.ics_components.proofs.Firsts.{finds, finds-none, found-at-end, found-on-line}
@@ -64,10 +66,10 @@ first-fault file fault r e =
       found = subst (Found (begins_with_fold file) (first_fault (placed file))) e (first-parsed file r);
     }
 
-pub fault-parsed : (file : List ℕ) (fault : FileFault) → Rises 0 (unfolded file) → Says {X = ParsedFileSeen} (λ g. g) (Err fault) (parsed_of file) →
+pub fault-parsed : (keep : KeptTexts) (file : List ℕ) (fault : FileFault) → Rises 0 (unfolded file) → SaysKept keep (Err fault) (parsed_of file) →
     IsFaultOf file fault
-fault-parsed file Memory r e = tt
-fault-parsed file (At line kind) r e = first-fault file (record { line = line; kind = kind }) r e
+fault-parsed keep file Memory r e = tt
+fault-parsed keep file (At line kind) r e = first-fault file (record { line = line; kind = kind }) r e
 
 -- a fault whatever zone files are given is the answer with each
 pub fault-says : (file : List ℕ) (fault : FileFault) (files : GivenFiles) → IsFaultOf file fault → SaysFile (Err fault) (file_of files file)

@@ -23,4 +23,5 @@ pub mod Settled
 pub mod ZoneTables
 pub mod UnresolvedFiles
 pub mod Parts
+pub mod Kept
 pub mod Inner

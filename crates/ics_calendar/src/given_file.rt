@@ -1,7 +1,11 @@
 //! What a file gives where a listing goes on behind faults.
 
+ghost use Rattle.std.specs.Prelude.{◌≡◌, IfOk};
+ghost use Rattle.ics_calendar.specs.Kept.{kept_given};
+
 use ics_components::Fault;
-use ics_event::FileEvents;
+use ics_event::{FileEvents, KeptTexts};
+use std::alloc::{AllocError, Global};
 use std::marker::Model;
 
 /// The events that a file gives, and the faults that are named: by their lines, then by their kinds, each once.
@@ -18,4 +22,17 @@ impl Model for GivenFile {
     ghost Value = { Given };
 
     ghost view = { λ a. record { said = said_by a.file; faults = a.faults.items } };
+}
+
+impl GivenFile {
+    /// The same, with these texts of its events alone.
+    pub fn kept(self, alloc: Global, keep: KeptTexts) -> Result<GivenFile, AllocError>
+        ensures { IfOk result (λ given. given ≡ kept_given keep self) }
+    {
+        let GivenFile { file, faults } = self;
+        Ok(GivenFile {
+            file: file.kept(alloc, keep)?,
+            faults,
+        })
+    }
 }

@@ -4,6 +4,7 @@ ghost use Rattle.std.specs.List.{All};
 ghost use Rattle.ics_calendar.specs.UnresolvedFiles.{unresolved_said, IsFaultOf};
 ghost use Rattle.ics_calendar.specs.Inner.PartialFiles.{IsReadOrFront};
 ghost use Rattle.ics_calendar.specs.Files.{unresolved_of, SaysFile};
+ghost use Rattle.ics_calendar.specs.Kept.{kept_unresolved};
 ghost use Rattle.ics_components.specs.FirstFault.{first_fault};
 ghost use Rattle.ics_components.specs.ParsedFiles.{IsSoundParsed};
 ghost use Rattle.ics_components.specs.PlacedLines.{placed};
@@ -20,7 +21,7 @@ use ics_components::{
     CalendarEvent, Fault, FileFault, FirstRead, Front, LineCheck, ParsedFile, Tzid, parse_file,
     read_first,
 };
-use ics_event::{Event, FileEvents};
+use ics_event::{Event, FileEvents, KeptTexts};
 use ics_text::numbers_rise;
 use std::alloc::{AllocError, Global};
 use std::marker::Model;
@@ -79,26 +80,27 @@ impl UnresolvedFile {
         ensures fault { IfErr result (IsFaultOf bytes.now) }
     {
         let mut shared = SharedZones::none(alloc);
-        UnresolvedFile::sharing(alloc, &mut shared, bytes)
+        UnresolvedFile::sharing(alloc, &mut shared, KeptTexts::all(), bytes)
     }
 
-    /// The same. Time zones that are shared are not made again.
+    /// The same. Time zones that are shared are not made again, and of the texts of events these alone are kept.
     pub fn sharing(
         alloc: Global,
         shared: &mut SharedZones,
+        keep: KeptTexts,
         bytes: &[u8],
     ) -> Result<UnresolvedFile, FileFault>
         requires { length bytes.now ≤ 16_777_216 }
-        ensures unresolved { IfOk result (λ unresolved. unresolved_said unresolved ≡ unresolved_of bytes.now) }
+        ensures unresolved { IfOk result (λ unresolved. unresolved_said unresolved ≡ kept_unresolved keep (unresolved_of bytes.now)) }
         ensures whole { OnOk result (first_fault (placed bytes.now) ≡ None) }
         ensures fault { IfErr result (IsFaultOf bytes.now) }
     {
         numbers_rise();
-        let parsed = parse_file(alloc, bytes)?;
+        let parsed = parse_file(alloc, keep, bytes)?;
         Ok(UnresolvedFile::of_parsed(alloc, shared, parsed)?)
     }
 
-    /// The same, or the file's first fault and the events before it.
+    /// The same with all texts, or the file's first fault and the events before it.
     pub(crate) fn or_front(
         alloc: Global,
         shared: &mut SharedZones,
@@ -108,7 +110,7 @@ impl UnresolvedFile {
         ensures { IfOk result (IsReadOrFront bytes.now) }
     {
         numbers_rise();
-        match read_first(alloc, bytes)? {
+        match read_first(alloc, KeptTexts::all(), bytes)? {
             FirstRead::Whole(parsed) => {
                 Ok(Ok(UnresolvedFile::of_parsed(alloc, shared, parsed)?))
             }

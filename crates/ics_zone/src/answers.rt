@@ -1,5 +1,5 @@
 //! Locals of a zone whose instants are known.
-ghost use Rattle.std.specs.Prelude.{◌≡◌, ℤ, ◌<◌, ◌≤◌, length, List, IfSome};
+ghost use Rattle.std.specs.Prelude.{ℤ, ◌<◌, ◌≤◌, length, List, IfSome};
 ghost use Rattle.ics_zone.specs.Moments.{IsMomentOf};
 ghost use Rattle.ics_zone.specs.Observances.{ObservanceSaid};
 ghost use Rattle.ics_zone.specs.Inner.Answers.{AreAnswers, AreAnswersBy};

@@ -1,17 +1,21 @@
 -- What a file comes to.
-use Rattle.std.proofs.Common.{◌≡◌, ℕ, Bool, true, false, List, ◌++◌, Some, None, All, if◌then◌else◌, refl, ap, ◌∙◌}
+use Rattle.std.proofs.Common.{◌≡◌, ℕ, Bool, true, false, List, ◌++◌, Some, None, Result, Ok, Err, All, if◌then◌else◌, refl, ap, ◌∙◌}
 use Rattle.std.specs.BTreeSet.{contains}
 use Rattle.std.specs.Cmp.Lexicographic.{slice_cmp, nat_list_eq_equiv}
 use Rattle.std.specs.List.{list_any}
 use Rattle.std.specs.Ordering.{nat_cmp}
 use Rattle.std.proofs.lemmas.Map.Views.{All-from_any}
 use Rattle.ics_calendar.specs.Files.{file_of, wanted_names}
+use Rattle.ics_calendar.specs.Kept.{kept_answer}
+use Rattle.ics_components.specs.declared.fault.Fault.{Fault}
+use Rattle.ics_event.specs.Event.{FileSaid}
+use Rattle.ics_event.specs.Kept.{KeptTexts}
 use Rattle.ics_calendar.specs.GivenFiles.{GivenFiles}
 use Rattle.ics_calendar.specs.Parts.{file_gives, names_for_parts}
 use Rattle.ics_calendar.specs.ZoneTables.{given_by}
 use Rattle.khal_reading.specs.declared.answered.Answered.{Answered}
 use Rattle.khal_reading.specs.Asked.{given_files, is_unread, Asked}
-use Rattle.khal_reading.specs.Gives.{FileGives, Read, ReadGives, gives_of, in_parts, unread, whole}
+use Rattle.khal_reading.specs.Gives.{FileGives, Read, ReadGives, gives_of, in_parts, kept_gives, kept_read, unread, whole}
 use Rattle.khal_ports.specs.Finds.{FindAnswer}
 use Rattle.khal_reading.specs.Inner.Learned.{Learns, Settles, WantedCount}
 use Rattle.khal_reading.proofs.AskedLemmas.{any-kept}
@@ -32,6 +36,15 @@ pub all-count : OnlyWantedCount → OnlyNamesForPartsCount → (keep_going : Boo
 all-count count parts keep_going (name, None) = λ files others agree. refl
 all-count count parts true (name, Some bytes) = λ files others agree. ap in_parts (parts files others name bytes agree)
 all-count count parts false (name, Some bytes) = λ files others agree. ap whole (count files others bytes agree)
+
+-- with the texts that are kept they give it one meaning too
+pub kept-count : (keep : KeptTexts) (file : FileGives) → WantedCount file → WantedCount (kept_gives keep file)
+kept-count keep file count = λ files others agree. ap (kept_read keep) (count files others agree)
+
+-- what is kept of an accepted file
+pub whole-kept : (keep : KeptTexts) (answer : Result FileSaid Fault) → whole (kept_answer keep answer) ≡ kept_read keep (whole answer)
+whole-kept keep (Ok said) = refl
+whole-kept keep (Err fault) = refl
 
 abbrev pub unread_or : Bool → ReadGives → ReadGives
 unread_or lacks gives = if lacks then unread else gives

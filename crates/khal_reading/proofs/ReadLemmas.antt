@@ -1,18 +1,23 @@
 -- One read more.
-use Rattle.std.proofs.Common.{◌≡◌, ◌≤◌, inl, inr, ℕ, suc, ◌+◌, Bool, List, [], ◌∷◌, ◌++◌, Err, Some, length, refl, sym, ◌∙◌, ap, subst}
+use Rattle.std.proofs.Common.{◌≡◌, ◌≤◌, inl, inr, ℕ, suc, ◌+◌, Bool, true, false, cond, List, [], ◌∷◌, ◌++◌, map, Err, Option, Some, None, length, refl, sym}
+use Rattle.std.proofs.Common.{◌∙◌, ap, subst}
 use Rattle.std.proofs.Common.{arith, length-append, append-nil}
 use Rattle.std.specs.Prelude.{slice_get}
 use Rattle.std.specs.Cmp.Lexicographic.{nat_list_eq_equiv}
-use Rattle.std.specs.List.{AllByRecursion, flat_map}
+use Rattle.std.specs.List.{AllByRecursion, flat_map, list_any}
+use Rattle.std.specs.Option.{option_map}
+use Rattle.std.proofs.lemmas.List.{map-append}
 use Rattle.std.proofs.lemmas.Grind.{flat_map-append}
 use Rattle.std.proofs.lemmas.Option.{slice_get-get_or}
 use Rattle.std.proofs.lemmas.Map.Views.{All-from_any}
 use Rattle.ics_event.specs.Event.{FileSaid}
+use Rattle.ics_event.specs.Kept.{KeptTexts, kept_said}
 use Rattle.khal_reading.specs.declared.answered.Answered.{Answered}
 use Rattle.khal_ports.specs.Answers.{Answer, Contents, contents_of}
 use Rattle.khal_reading.specs.Asked.{given_files, is_unread, names_of, Asked, AsksAll, AsksSome}
 use Rattle.khal_reading.specs.Errors.{lines_of}
-use Rattle.khal_reading.specs.Gives.{FileGives, Read, ReadGives, all_wanted, file_first, gives_of, gives_with, name_at, read_gives, read_wants, reads_of}
+use Rattle.khal_reading.specs.Gives.{FileGives, Read, ReadGives, all_wanted, file_first, gives_of, gives_with, kept_gives, kept_read, listed_files, name_at}
+use Rattle.khal_reading.specs.Gives.{read_gives, read_wants, reads_of, unread}
 use Rattle.khal_ports.specs.Finds.{FindAnswer}
 use Rattle.khal_reading.specs.Inner.Learned.{Keeps, Knows, WantedCount}
 use Rattle.khal_reading.specs.Gives.{IsReading}
@@ -68,6 +73,27 @@ same-lists one keep_going asked others [] same = refl
 same-lists one keep_going asked others (read ∷ reads) same =
     λ i. one read (same.0 i) ++ same-lists one keep_going asked others reads same.1 i
 
+-- ---- the texts that are kept
+
+kept-or : (keep : KeptTexts) (t : Bool) (gives : ReadGives) → cond t unread (kept_read keep gives) ≡ kept_read keep (cond t unread gives)
+kept-or keep true gives = refl
+kept-or keep false gives = refl
+
+gives-kept : (asked : List Asked) (keep : KeptTexts) (file : FileGives) → gives_with asked (kept_gives keep file) ≡ kept_read keep (gives_with asked file)
+gives-kept asked keep file = kept-or keep (list_any (is_unread asked) file.wants) (file.gives (given_files asked))
+
+first-kept : (keep : KeptTexts) (file : Option FileSaid) → file_first (option_map (kept_said keep) file) ≡ map (kept_said keep) (file_first file)
+first-kept keep None = refl
+first-kept keep (Some file) = refl
+
+listed-more : (keep_going : Bool) (keep : KeptTexts) (asked : List Asked) (reads : List Read) (read : Read) →
+    map (kept_said keep) (listed_files keep_going asked reads) ++ file_first (kept_read keep (read_gives keep_going asked read)).file
+    ≡ map (kept_said keep) (listed_files keep_going asked (reads ++ read ∷ []))
+listed-more keep_going keep asked reads read =
+    ap (λ more. map (kept_said keep) (listed_files keep_going asked reads) ++ more) (first-kept keep (read_gives keep_going asked read).file)
+    ∙ (sym (map-append (kept_said keep) (listed_files keep_going asked reads) (file_first (read_gives keep_going asked read).file))
+    ∙ ap (map (kept_said keep)) (sym (flat_map-one (λ read. file_first (read_gives keep_going asked read).file) reads read)))
+
 module _ {S Z : Type 0} (reads : S → ℕ → Answer → S → Type 0) (finds : Z → List ℕ → FindAnswer → Z → Type 0) where
   -- a read of a file gave these contents
   pub record Gave (after : S) (j : ℕ) (a : Contents) (last : S) : Type 0 where
@@ -85,7 +111,7 @@ module _ {S Z : Type 0} (reads : S → ℕ → Answer → S → Type 0) (finds :
       (h.0, h.1, h.2, h.3, reads-more h.1 (i + 1) contents h.4 (omega (arith, e)) g)
 
   -- the reads of the first files, what is asked for, and what is kept of them
-  pub record Done (keep_going : Bool) (names : List (List ℕ)) (before : S) (zones : Z) (i : ℕ) (after : S) (zones' : Z) (answered : Answered)
+  pub record Done (keep_going : Bool) (keep : KeptTexts) (names : List (List ℕ)) (before : S) (zones : Z) (i : ℕ) (after : S) (zones' : Z) (answered : Answered)
       (files : List FileSaid) (errors : List ℕ) : Type 0 where
     pub contents : List Contents
     pub asked : List Asked
@@ -93,10 +119,10 @@ module _ {S Z : Type 0} (reads : S → ℕ → Answer → S → Type 0) (finds :
     pub long : length contents ≡ i
     pub asks : AsksAll finds [] (all_wanted keep_going (reads_of names contents)) zones asked zones'
     pub knows : Knows asked answered
-    pub kept : IsReading keep_going asked (reads_of names contents) files errors
+    pub kept : IsReading keep_going keep asked (reads_of names contents) files errors
 
-  pub done-none : {keep_going : Bool} {names : List (List ℕ)} {before : S} {zones : Z} {answered : Answered} {files : List FileSaid} {errors : List ℕ}
-      → Knows [] answered → files ≡ [] → errors ≡ [] → Done keep_going names before zones 0 before zones answered files errors
+  pub done-none : {keep_going : Bool} {keep : KeptTexts} {names : List (List ℕ)} {before : S} {zones : Z} {answered : Answered} {files : List FileSaid}
+      {errors : List ℕ} → Knows [] answered → files ≡ [] → errors ≡ [] → Done keep_going keep names before zones 0 before zones answered files errors
   done-none {names = names} k f e = record {
     contents = [];
     asked = [];
@@ -107,8 +133,8 @@ module _ {S Z : Type 0} (reads : S → ℕ → Answer → S → Type 0) (finds :
     kept = rw (reads_of-none names) (record { files_are = f; errors_are = e });
   }
 
-  module _ {keep_going : Bool} {names : List (List ℕ)} {before : S} {zones : Z} {i : ℕ} {after : S} {zones' : Z} {answered : Answered}
-      {files : List FileSaid} {errors : List ℕ} (d : Done keep_going names before zones i after zones' answered files errors)
+  module _ {keep_going : Bool} {keep : KeptTexts} {names : List (List ℕ)} {before : S} {zones : Z} {i : ℕ} {after : S} {zones' : Z} {answered : Answered}
+      {files : List FileSaid} {errors : List ℕ} (d : Done keep_going keep names before zones i after zones' answered files errors)
       (inside : suc i ≤ length names) where
     abbrev name : List ℕ
     name = name_at names i
@@ -160,14 +186,14 @@ module _ {S Z : Type 0} (reads : S → ℕ → Answer → S → Type 0) (finds :
 
     -- it comes to something
     pub stops-after : {answer : Answer} {last : S} {zones'' : Z} {answered' : Answered} {outcome : ReadGives} → reads after i answer last →
-        IsOutcome finds keep_going name answer zones' zones'' answered answered' outcome → Ended last zones''
+        IsOutcome finds keep_going keep name answer zones' zones'' answered answered' outcome → Ended last zones''
     stops-after {answer = answer} r outcome =
         ends-after (record { answer = answer; read = r; gives = outcome.some }) (all-some finds (outcome.settles d.asked d.knows).learns.asks)
 
     pub done-more : {answer : Answer} {last : S} {zones'' : Z} {answered' : Answered} {outcome : ReadGives} {files' : List FileSaid} {errors' : List ℕ}
-        → AllCount keep_going → reads after i answer last → IsOutcome finds keep_going name answer zones' zones'' answered answered' outcome
+        → AllCount keep_going → reads after i answer last → IsOutcome finds keep_going keep name answer zones' zones'' answered answered' outcome
         → files' ≡ files ++ file_first outcome.file → errors' ≡ errors ++ lines_of name outcome.refusals
-        → Done keep_going names before zones (i + 1) last zones'' answered' files' errors'
+        → Done keep_going keep names before zones (i + 1) last zones'' answered' files' errors'
     done-more {answer = answer} {zones'' = zones''} count r outcome f e =
         let a : Contents = outcome.given in
         let settles = outcome.settles d.asked d.knows in
@@ -178,7 +204,8 @@ module _ {S Z : Type 0} (reads : S → ℕ → Answer → S → Type 0) (finds :
         (λ n h. subst (IsIn n) (sym d.asks.names) (wanted-in n [] (all_wanted keep_going had) h)) in
         let file : Read → ReadGives → List FileSaid = λ read gives. file_first gives.file in
         let lines : Read → ReadGives → List ℕ = λ read gives. lines_of read.0 gives.refusals in
-        let files-are = d.kept.files_are ∙ sym (same-lists file keep_going all d.asked had same) in
+        let files-are = d.kept.files_are ∙ ap (map (kept_said keep)) (sym (same-lists file keep_going all d.asked had same)) in
+        let outcome-is = settles.outcome_is ∙ gives-kept all keep (gives_of keep_going (name, a)) in
         let lines-are = d.kept.errors_are ∙ sym (same-lists lines keep_going all d.asked had same) in
         record {
           contents = d.contents ++ a ∷ [];
@@ -188,9 +215,8 @@ module _ {S Z : Type 0} (reads : S → ℕ → Answer → S → Type 0) (finds :
           asks = subst (λ wanted. AsksAll finds [] wanted zones all zones'') (sym (more-wanted a)) (all-then-all finds d.asks learns.asks);
           knows = learns.knows;
           kept = rw (more-reads a) (record {
-            files_are = f ∙ ((λ j. files-are j ++ file_first (settles.outcome_is j).file)
-                ∙ sym (flat_map-one (λ read. file_first (read_gives keep_going all read).file) had (name, a)));
-            errors_are = e ∙ ((λ j. lines-are j ++ lines_of name (settles.outcome_is j).refusals)
+            files_are = f ∙ ((λ j. files-are j ++ file_first (outcome-is j).file) ∙ listed-more keep_going keep all had (name, a));
+            errors_are = e ∙ ((λ j. lines-are j ++ lines_of name (outcome-is j).refusals)
                 ∙ sym (flat_map-one (λ read. lines_of read.0 (read_gives keep_going all read).refusals) had (name, a)));
           });
         }

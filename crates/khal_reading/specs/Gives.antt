@@ -1,7 +1,9 @@
 -- WHAT A READ GIVES: a file for the listing, and the lines that are written for it, whether a run goes on behind faults or not.
 use Rattle.std.specs.Prelude.{◌≡◌, ℕ, Bool, true, false, List, [], ◌∷◌, map, get_or, Option, Some, None, Result, Ok, Err, if◌then◌else◌}
 use Rattle.std.specs.List.{flat_map, list_any, zip}
+use Rattle.std.specs.Option.{option_map}
 use Rattle.ics_event.specs.Event.{FileSaid}
+use Rattle.ics_event.specs.Kept.{KeptTexts, kept_said}
 use Rattle.ics_calendar.specs.Files.{file_of, wanted_names}
 use Rattle.ics_calendar.specs.GivenFiles.{GivenFiles}
 use Rattle.ics_calendar.specs.Parts.{Given, file_gives, names_for_parts}
@@ -45,6 +47,13 @@ given_by_file keep_going name bytes = if keep_going then gives_in_parts name byt
 -- If a zone file that the file wants was not read, it is as if the file were not.
 abbrev pub gives_with : List Asked → FileGives → ReadGives
 gives_with asked file = if list_any (is_unread asked) file.wants then unread else file.gives (given_files asked)
+
+-- THE SAME where some texts of its events are not kept
+abbrev pub kept_read : KeptTexts → ReadGives → ReadGives
+kept_read keep given = record given { file = option_map (kept_said keep) given.file }
+
+abbrev pub kept_gives : KeptTexts → FileGives → FileGives
+kept_gives keep file = record file { gives = λ files. kept_read keep (file.gives files) }
 
 -- a read: the name of a file, and what was in it, if it was read
 abbrev pub Read : Type 0
@@ -96,7 +105,7 @@ are_some (refusal ∷ refusals) = true
 abbrev pub is_faulty : Bool → List Asked → Read → Bool
 is_faulty keep_going asked read = are_some (read_gives keep_going asked read).refusals
 
--- these are the files of the reads that are listed, and the lines of those that are not, or not whole
-pub record IsReading (keep_going : Bool) (asked : List Asked) (reads : List Read) (files : List FileSaid) (errors : List ℕ) : Type 0 where
-  pub files_are : files ≡ listed_files keep_going asked reads
+-- these are the files of the reads that are listed, with the texts that are kept, and the lines of those that are not, or not whole
+pub record IsReading (keep_going : Bool) (keep : KeptTexts) (asked : List Asked) (reads : List Read) (files : List FileSaid) (errors : List ℕ) : Type 0 where
+  pub files_are : files ≡ map (kept_said keep) (listed_files keep_going asked reads)
   pub errors_are : errors ≡ error_lines keep_going asked reads

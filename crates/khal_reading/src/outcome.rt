@@ -8,7 +8,7 @@ ghost use Rattle.ics_event.specs.Event.{said_by};
 ghost use Rattle.ics_calendar.specs.ZoneTables.{given_by};
 ghost use Rattle.khal_ports.specs.Answers.{most_bytes, Answer};
 ghost use Rattle.khal_reading.specs.Asked.{Asked};
-ghost use Rattle.khal_reading.specs.Gives.{given_by_file, in_parts, name_at};
+ghost use Rattle.khal_reading.specs.Gives.{given_by_file, gives_whole, in_parts, kept_gives, name_at};
 ghost use Rattle.khal_reading.specs.Inner.Learned.{Knows, Learns, LearnsSome, Settles, WantedCount};
 ghost use Rattle.khal_reading.specs.Inner.Outcomes.{half_gives, refusal_by, refusal_of, seen_outcome, EndsReading, IsOutcome};
 
@@ -18,7 +18,7 @@ use ics_calendar::{
     Fault, FaultKind, FileFault, GivenFile, PartialFile, SharedZones, UnresolvedFile, ZoneFiles,
     only_names_for_parts_count, only_wanted_files_count,
 };
-use ics_event::{FileEvents, Text};
+use ics_event::{FileEvents, KeptTexts, Text};
 use khal_ports::{RunFault, Source, SourceFault, ZoneSource};
 use std::alloc::{AllocError, Global};
 
@@ -34,8 +34,8 @@ pub(crate) struct Outcome {
 enum HalfRead<'a> {
     /// The first round finds nothing.
     Whole(UnresolvedFile),
-    /// Its sound parts are kept.
-    InParts(PartialFile<'a>),
+    /// Its sound parts are kept, and of its events these texts alone are to be.
+    InParts(PartialFile<'a>, KeptTexts),
     /// Its first fault.
     Faulty { line: u64, kind: FaultKind },
 }
@@ -84,23 +84,18 @@ impl Outcome {
 }
 
 impl<'a> HalfRead<'a> {
-    /// Reads a file of that name.
-    fn read(
+    /// Reads a file of which all events are listed or none.
+    fn whole(
         alloc: Global,
         shared: &mut SharedZones,
-        name: &'a str,
-        bytes: &'a [u8],
-        keep_going: bool,
+        keep: KeptTexts,
+        bytes: &[u8],
     ) -> Result<HalfRead<'a>, RunFault>
         requires { length bytes.now ≤ most_bytes }
-        ensures ok { IfOk result (λ half. half_gives half ≡ given_by_file keep_going name.now bytes.now) }
+        ensures ok { IfOk result (λ half. half_gives half ≡ kept_gives keep (gives_whole bytes.now)) }
         ensures err { IfErr result (λ fault. fault ≡ RunFault.Memory) }
     {
-        if keep_going {
-            let partial = PartialFile::sharing(alloc, shared, name, bytes)?;
-            return Ok(HalfRead::InParts(partial));
-        }
-        match UnresolvedFile::sharing(alloc, shared, bytes) {
+        match UnresolvedFile::sharing(alloc, shared, keep, bytes) {
             Ok(unresolved) => Ok(HalfRead::Whole(unresolved)),
             Err(FileFault::At { line, kind }) => Ok(HalfRead::Faulty { line, kind }),
             Err(FileFault::Memory) => Err(RunFault::Memory),
@@ -113,7 +108,7 @@ impl<'a> HalfRead<'a> {
     {
         match self {
             HalfRead::Whole(unresolved) => unresolved.wanted(alloc),
-            HalfRead::InParts(partial) => partial.wanted(alloc),
+            HalfRead::InParts(partial, _) => partial.wanted(alloc),
             HalfRead::Faulty { .. } => Ok(Vec::new(alloc)),
         }
     }
@@ -138,8 +133,9 @@ impl<'a> HalfRead<'a> {
                 }
                 Err(FileFault::Memory) => Err(RunFault::Memory),
             },
-            HalfRead::InParts(partial) => {
-                Ok(Outcome::in_parts(alloc, partial.settle(alloc, files)?)?)
+            HalfRead::InParts(partial, keep) => {
+                let given = partial.settle(alloc, files)?.kept(alloc, keep)?;
+                Ok(Outcome::in_parts(alloc, given)?)
             }
             HalfRead::Faulty { line, kind } => {
                 Ok(Outcome::refused(alloc, Refusal::At { line, kind })?)
@@ -201,19 +197,28 @@ fn outcome_of<Z: ZoneSource>(
     answered: &mut Answered,
     shared: &mut SharedZones,
     name: &str,
-    bytes: &[u8],
+    bytes: Vec<u8>,
     keep_going: bool,
+    keep: KeptTexts,
 ) -> Result<Outcome, RunFault>
-    requires { length bytes.now ≤ most_bytes }
+    requires { length bytes.items ≤ most_bytes }
     ensures ok { IfOk result (λ outcome. (asked : List Asked) → Knows asked answered.old
-        → Settles Z.finds asked (given_by_file keep_going name.now bytes.now) zones.old zones.new answered.new (seen_outcome outcome)) }
+        → Settles Z.finds asked (kept_gives keep (given_by_file keep_going name.now bytes.items)) zones.old zones.new answered.new (seen_outcome outcome)) }
     ensures some { OnErr result ((asked : List Asked) → Knows asked answered.old
-        → LearnsSome Z.finds asked (given_by_file keep_going name.now bytes.now).wants zones.old zones.new) }
+        → LearnsSome Z.finds asked (given_by_file keep_going name.now bytes.items).wants zones.old zones.new) }
     ensures err { IfErr result (λ fault. fault ≡ RunFault.Memory) }
 {
     only_wanted_files_count();
     only_names_for_parts_count();
-    let half = HalfRead::read(alloc, shared, name, bytes, keep_going)?;
+    if keep_going {
+        let lent = bytes.as_slice();
+        let partial = PartialFile::sharing(alloc, shared, name, lent)?;
+        return outcome_with(alloc, zones, answered, HalfRead::InParts(partial, keep));
+    }
+    let read = bytes.as_slice();
+    let half = HalfRead::whole(alloc, shared, keep, read)?;
+    // the bytes have no use while the events are made
+    drop(bytes);
     outcome_with(alloc, zones, answered, half)
 }
 
@@ -227,11 +232,12 @@ pub(crate) fn read_outcome<S: Source, Z: ZoneSource>(
     shared: &mut SharedZones,
     index: usize,
     keep_going: bool,
+    keep: KeptTexts,
 ) -> Result<Outcome, RunFault>
     requires { index < length (S.names source.old) }
     ensures names { S.names source.new ≡ S.names source.old }
     ensures read { (answer : Answer) × S.reads source.old index answer source.new
-        × IfOk result (λ outcome. IsOutcome Z.finds keep_going (name_at (S.names source.old) index) answer zones.old zones.new answered.old answered.new
+        × IfOk result (λ outcome. IsOutcome Z.finds keep_going keep (name_at (S.names source.old) index) answer zones.old zones.new answered.old answered.new
         (seen_outcome outcome))
         × OnErr result (EndsReading Z.finds keep_going (name_at (S.names source.old) index) answer zones.old zones.new answered.old) }
     ensures err { IfErr result (λ fault. fault ≡ RunFault.Memory) }
@@ -243,8 +249,9 @@ pub(crate) fn read_outcome<S: Source, Z: ZoneSource>(
             answered,
             shared,
             source.name(index),
-            &bytes,
+            bytes,
             keep_going,
+            keep,
         ),
         Err(SourceFault::Memory) => Err(RunFault::Memory),
         Err(_) => Ok(Outcome::refused(alloc, Refusal::Unread)?),

@@ -13,7 +13,7 @@ use crate::outcome::{Outcome, read_outcome};
 use crate::refusal::add_refusal_lines;
 use crate::status::Status;
 use ics_calendar::{SharedZones, only_names_for_parts_count, only_wanted_files_count};
-use ics_event::FileEvents;
+use ics_event::{FileEvents, KeptTexts};
 use khal_ports::{RunFault, Source, ZoneSource};
 use std::alloc::Global;
 
@@ -69,9 +69,10 @@ impl Reading {
 /// Reads each file of the source once, in order, and asks `zones` for each name that the files want and no
 /// VTIMEZONE defines, for each once in a run. A file that cannot be read, or one of whose zone files cannot,
 /// and a file that is refused have a line in the errors: none of them is a fault here. With `keep_going` a file
-/// gives the events of its accepted parts, and has a line for each fault that is named. Memory if an allocation
-/// failed, and then only the first of the files are read. Time zones that files share are prepared between two
-/// instants, the first of which is `from`: that makes a listing there faster, and changes no answer.
+/// gives the events of its accepted parts, and has a line for each fault that is named. Of the texts of events
+/// those are kept that `keep` names. Memory if an allocation failed, and then only the first of the files are
+/// read. Time zones that files share are prepared between two instants, the first of which is `from`: that
+/// makes a listing there faster, and changes no answer.
 pub fn read_all<S: Source, Z: ZoneSource>(
     alloc: Global,
     source: &mut S,
@@ -79,6 +80,7 @@ pub fn read_all<S: Source, Z: ZoneSource>(
     from: i64,
     to: i64,
     keep_going: bool,
+    keep: KeptTexts,
 ) -> Result<Reading, RunFault>
     ensures some { (contents : List Contents) × (asked : List Asked)
         × ReadsSome S.reads (S.names source.old) source.old contents source.new
@@ -86,7 +88,7 @@ pub fn read_all<S: Source, Z: ZoneSource>(
     ensures all { IfOk result (λ reading. (contents : List Contents) × (asked : List Asked)
         × ReadsAll S.reads (S.names source.old) source.old contents source.new
         × AsksAll Z.finds [] (all_wanted keep_going (reads_of (S.names source.old) contents)) zones.old asked zones.new
-        × IsReading keep_going asked (reads_of (S.names source.old) contents) (map said_by reading.files.items) reading.errors.items) }
+        × IsReading keep_going keep asked (reads_of (S.names source.old) contents) (map said_by reading.files.items) reading.errors.items) }
     ensures err { IfErr result (λ fault. fault ≡ RunFault.Memory) }
 {
     only_wanted_files_count();
@@ -103,6 +105,7 @@ pub fn read_all<S: Source, Z: ZoneSource>(
             &mut shared,
             index,
             keep_going,
+            keep,
         )?;
         reading.keep(alloc, source.name(index), outcome)?;
     }

@@ -2,6 +2,7 @@
 use Rattle.std.specs.Prelude.{◌≡◌, ℕ, Bool, List, [], ◌∷◌, map, Option, Some, None, Result, Ok, Err}
 use Rattle.std.specs.Option.{option_map}
 use Rattle.ics_event.specs.Event.{said_by}
+use Rattle.ics_event.specs.Kept.{KeptTexts}
 use Rattle.ics_components.specs.declared.fault.Fault.{Fault}
 use Rattle.ics_calendar.specs.UnresolvedFiles.{unresolved_said}
 use Rattle.khal_reading.specs.declared.outcome.Outcome.{Outcome}
@@ -14,7 +15,7 @@ use Rattle.khal_ports.specs.declared.fault.SourceFault.TheVariants.{Memory}
 use Rattle.khal_ports.specs.Answers.{Answer, Contents, contents_of}
 use Rattle.khal_reading.specs.Asked.{Asked}
 use Rattle.khal_reading.specs.Errors.{Refusal}
-use Rattle.khal_reading.specs.Gives.{FileGives, ReadGives, gives_in_parts, gives_of, read_wants, whole}
+use Rattle.khal_reading.specs.Gives.{FileGives, ReadGives, gives_in_parts, gives_of, kept_gives, read_wants, whole}
 use Rattle.khal_ports.specs.Finds.{FindAnswer}
 use Rattle.khal_reading.specs.Inner.Learned.{Knows, LearnsSome, Settles}
 
@@ -32,15 +33,16 @@ seen_outcome outcome = record { file = option_map said_by outcome.file; refusals
 abbrev pub half_gives : HalfRead → FileGives
 half_gives (Whole unresolved) =
     record { wants = (unresolved_said unresolved).wants; gives = λ files. whole ((unresolved_said unresolved).says files) }
-half_gives (InParts partial) = gives_in_parts partial.name partial.bytes
+half_gives (InParts partial keep) = kept_gives keep (gives_in_parts partial.name partial.bytes)
 half_gives (Faulty line kind) = record { wants = []; gives = λ files. whole (Err (record { line = line; kind = kind })) }
 
 -- A read came to something, after the names that it wants were asked for.
 pub record IsOutcome {Z : Type 0} (finds : Z → List ℕ → FindAnswer → Z →
-    Type 0) (keep_going : Bool) (name : List ℕ) (answer : Answer) (before after : Z) (known known' : Answered) (outcome : ReadGives) : Type 0 where
+    Type 0) (keep_going : Bool) (keep : KeptTexts) (name : List ℕ) (answer : Answer) (before after : Z) (known known' : Answered) (outcome : ReadGives) :
+    Type 0 where
   pub given : Contents
   pub some : contents_of answer ≡ Some given
-  pub settles : (asked : List Asked) → Knows asked known → Settles finds asked (gives_of keep_going (name, given)) before after known' outcome
+  pub settles : (asked : List Asked) → Knows asked known → Settles finds asked (kept_gives keep (gives_of keep_going (name, given))) before after known' outcome
 
 -- It came to nothing: an allocation failed in it, or after it as the names were asked for that it wants.
 pub data EndsReading {Z : Type 0} (finds : Z → List ℕ → FindAnswer → Z →

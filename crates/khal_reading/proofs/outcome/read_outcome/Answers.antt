@@ -2,7 +2,7 @@ use Rattle.std.proofs.Common.{◌≡◌, rules, ℕ, List, Some, None, Ok, Err, 
 use Rattle.std.proofs.lemmas.Option.{get_or_from_slice_get}
 use Rattle.std.proofs.lemmas.Result.{IfOk-weaker, on_err_weaker}
 use Rattle.khal_ports.specs.Answers.{contents_of}
-use Rattle.khal_reading.specs.Gives.{given_by_file}
+use Rattle.khal_reading.specs.Gives.{given_by_file, kept_gives}
 use Rattle.khal_reading.specs.Inner.Learned.{LearnsSome, Settles}
 use Rattle.khal_reading.specs.Inner.Outcomes.{seen_outcome, EndsReading}
 use Rattle.khal_reading.proofs.LearnedLemmas.{learns-nothing}
@@ -24,7 +24,7 @@ returns-in_err-refused-in-Err g c =
       err = search rules;
     }
 
--- the bytes that are lent are those that were read, and the name is that of the file
+-- the name that is lent is that of the file
 pub returns-in-Ok-clause-read : goal.returns-in-Ok-clause-read
 returns-in-Ok-clause-read g c =
     let name = sym (get_or_from_slice_get (g.S.Source.names c.args.source.now) c.args.index c.name.result.now []
@@ -34,14 +34,10 @@ returns-in-Ok-clause-read g c =
       IfOk-weaker c.outcome_of.result _ _ (λ outcome settles. record {
         given = Some c.in-Ok.bytes.items;
         some = refl;
-        settles = λ asked k. subst (λ (n : List ℕ). Settles g.Z.ZoneSource.finds asked (given_by_file c.args.keep_going n c.in-Ok.bytes.items) c.args.zones.now
-            c.outcome_of.new.zones c.outcome_of.new.answered (seen_outcome outcome)) name
-            (subst (λ (b : List ℕ). Settles g.Z.ZoneSource.finds asked (given_by_file c.args.keep_going c.name.result.now b) c.args.zones.now
-            c.outcome_of.new.zones c.outcome_of.new.answered (seen_outcome outcome)) c.deref.ensures.value (settles asked k));
+        settles = λ asked k. subst (λ (n : List ℕ). Settles g.Z.ZoneSource.finds asked (kept_gives c.args.keep (given_by_file c.args.keep_going n
+            c.in-Ok.bytes.items)) c.args.zones.now c.outcome_of.new.zones c.outcome_of.new.answered (seen_outcome outcome)) name (settles asked k);
       }) c.outcome_of.ensures.ok,
       on_err_weaker c.outcome_of.result (λ learns. EndsReading.AfterRead (Some c.in-Ok.bytes.items) refl
           (λ asked k. subst (λ (n : List ℕ). LearnsSome g.Z.ZoneSource.finds asked (given_by_file c.args.keep_going n c.in-Ok.bytes.items).wants
-          c.args.zones.now
-          c.outcome_of.new.zones) name (subst (λ (b : List ℕ). LearnsSome g.Z.ZoneSource.finds asked (given_by_file c.args.keep_going c.name.result.now b).wants
-          c.args.zones.now c.outcome_of.new.zones) c.deref.ensures.value (learns asked k)))) c.outcome_of.ensures.some,
+          c.args.zones.now c.outcome_of.new.zones) name (learns asked k))) c.outcome_of.ensures.some,
     )

@@ -1,16 +1,25 @@
-use Rattle.std.proofs.Common.{sym, ap, ◌∙◌}
+use Rattle.std.proofs.Common.{sym, ap, ◌∙◌, Ok}
 use Rattle.std.proofs.lemmas.Result.{err_from_is_err_and}
+use Rattle.ics_components.specs.ParsedFileSeen.{ParsedFileSeen}
+use Rattle.ics_calendar.specs.Kept.{kept_unresolved}
+use Rattle.ics_calendar.proofs.KeptFiles.{unresolved-kept}
 use Rattle.ics_calendar.proofs.Whole.{unresolved_at, parsed, fault-parsed, whole-parsed}
 use Rattle.ics_calendar.proofs.unresolved_file.UnresolvedFile.sharing.Goals as goal
 
 pub returns-in_err-parsed-clause-fault : goal.returns-in_err-parsed-clause-fault
 returns-in_err-parsed-clause-fault c =
     let e = err_from_is_err_and c.from_residual.result c.from_residual.ensures.1 in
-    rw (e.1, e.2) (fault-parsed c.args.bytes.now c.in_err-parsed.field-0.0 (c.numbers_rise.ensures c.args.bytes.now) c.in_err-parsed.ensures.parsed)
+    rw (e.1, e.2) (fault-parsed c.args.keep c.args.bytes.now c.in_err-parsed.field-0.0 (c.numbers_rise.ensures c.args.bytes.now)
+    c.in_err-parsed.ensures.parsed)
 
 pub returns-clause-whole : goal.returns-clause-whole
-returns-clause-whole c = whole-parsed c.args.bytes.now c.in_ok-parsed.parsed (c.numbers_rise.ensures c.args.bytes.now) c.in_ok-parsed.ensures.parsed
+returns-clause-whole c =
+    let says = c.in_ok-parsed.ensures.parsed in whole-parsed c.args.bytes.now says.0 (c.numbers_rise.ensures c.args.bytes.now) says.1
 
 pub returns-clause-unresolved : goal.returns-clause-unresolved
 returns-clause-unresolved c =
-    c.in_ok-of_parsed.ensures ∙ sym (parsed c.args.bytes.now (c.numbers_rise.ensures c.args.bytes.now) ∙ ap unresolved_at c.in_ok-parsed.ensures.parsed)
+    let says = c.in_ok-parsed.ensures.parsed in
+    c.in_ok-of_parsed.ensures
+    ∙ (ap (λ (g : ParsedFileSeen). unresolved_at (Ok g)) says.2
+    ∙ (unresolved-kept c.args.keep says.0
+    ∙ ap (kept_unresolved c.args.keep) (sym (parsed c.args.bytes.now (c.numbers_rise.ensures c.args.bytes.now) ∙ ap unresolved_at says.1))))
