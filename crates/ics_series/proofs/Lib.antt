@@ -40,3 +40,4 @@ pub mod WindowLemmas
 pub mod ZoneLemmas
 pub mod RemovedLemmas
 pub mod SameLemmas
+pub mod KeptLemmas

@@ -1,4 +1,5 @@
 pub mod AddedLemmas
+pub mod KeptLemmas
 pub mod PageLemmas
 pub mod Printed
 pub mod PutLemmas

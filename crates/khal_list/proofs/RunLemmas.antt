@@ -1,10 +1,11 @@
 -- What a run has done once every file is read and the lines of those that are not listed are written.
-use Rattle.std.proofs.Common.{◌≡◌, ◌≢◌, ◌⊎◌, inl, inr, ℕ, List, [], Option, Some, None, append-nil, refl, sym, ap, ◌∙◌, subst, arith}
+use Rattle.std.proofs.Common.{◌≡◌, ◌≢◌, ◌⊎◌, inl, inr, ℕ, List, [], map, Option, Some, None, append-nil, refl, sym, ap, ◌∙◌, subst, arith}
 use Rattle.std.specs.Prelude.{◌↔◌}
 use Rattle.std.specs.Io.KnownBytes.{Appends, Keeps}
 use Rattle.std.specs.Option.{option_copied, option_map}
 use denote.Ref.{Bor}
 use Rattle.ics_event.specs.Event.{FileSaid}
+use Rattle.ics_event.specs.Kept.{KeptTexts, kept_said}
 use Rattle.ics_zone.specs.declared.display.Display.{Display}
 use Rattle.ics_series.specs.After.{after_key}
 use Rattle.ics_series.specs.Clocks.{display_clock}
@@ -22,13 +23,15 @@ use Rattle.khal_reading.specs.declared.status.Status.{Status}
 use Rattle.khal_reading.specs.declared.status.Status.TheVariants.{Faulty}
 use Rattle.khal_ports.specs.Answers.{Answer, Contents}
 use Rattle.khal_reading.specs.Asked.{Asked, AsksAll, AsksSome}
-use Rattle.khal_reading.specs.Gives.{all_wanted, error_lines, reads_of, IsReading}
+use Rattle.khal_reading.specs.Gives.{all_wanted, error_lines, listed_files, reads_of, IsReading}
 use Rattle.khal_ports.specs.Finds.{FindAnswer}
 use Rattle.khal_ports.specs.Growth.{TookFront}
 use Rattle.khal_list.specs.Headline.{more_line, Inputs, Lists, Outputs, Shown, ShownInPart, Shows, ShowsDays, ShowsOnce, Stops}
+use Rattle.khal_list.specs.Inner.Kept.{texts_named}
 use Rattle.khal_list.specs.Listed.{day_key_on, days_text_of, key_on, listing_text}
 use Rattle.khal_ports.specs.Reads.{ReadsAll, ReadsSome}
 use Rattle.khal_reading.proofs.AskedLemmas.{all-some}
+use Rattle.khal_list.proofs.KeptLemmas.{shows-kept}
 use Rattle.khal_reading.proofs.RefusedLemmas.{lines-refused}
 use Rattle.khal_ports.proofs.Written.{appends-both, appends-none, appends-same, written-front}
 
@@ -90,6 +93,14 @@ shows-days {request = request} {every_day = every_day} lent {list = list} zone k
       token_is = is ∙ ap (λ k. option_map day_spelling (day_key_on request.limit (after_day_key k list))) same;
     }
 
+-- what is shown of the texts that are kept is what is shown of the files
+module _ (request : Request) (shown : List ℕ) (token : Option (List ℕ)) where
+  shows-whole : {keep : KeptTexts} {files : List FileSaid} (listed : List FileSaid) → files ≡ map (kept_said keep) listed →
+      keep ≡ texts_named request.formats.entries.pieces.items → Shows files request shown token → Shows listed request shown token
+  shows-whole listed are named shows =
+      shows-kept request listed shown token
+      (subst (λ these. Shows these request shown token) (are ∙ ap (λ (k : KeptTexts). map (kept_said k) listed) named) shows)
+
 module _ {S Z : Type 0} {reads : S → ℕ → Answer → S → Type 0} {finds : Z → List ℕ → FindAnswer → Z → Type 0} {i : Inputs S Z} {request : Request} where
   -- an allocation failed while files were read
   pub stops-reading : {out err : Option (List ℕ)} → (contents : List Contents) × (asked : List Asked)
@@ -106,10 +117,10 @@ module _ {S Z : Type 0} {reads : S → ℕ → Answer → S → Type 0} {finds :
   })
 
   -- the files are read, and their lines are given to `err`
-  module _ {o : Outputs} {files : List FileSaid} {errors given : List ℕ}
+  module _ {o : Outputs} {keep : KeptTexts} {files : List FileSaid} {errors given : List ℕ}
       (all : (contents : List Contents) × (asked : List Asked) × ReadsAll reads i.names i.source contents i.source_after
       × AsksAll finds [] (all_wanted request.keep_going (reads_of i.names contents)) i.zones asked i.zones_after
-      × IsReading request.keep_going asked (reads_of i.names contents) files errors) (same : given ≡ errors) where
+      × IsReading request.keep_going keep asked (reads_of i.names contents) files errors) (same : given ≡ errors) where
     -- they were not written whole
     pub stops-lines : o.out_after ≡ o.out → TookFront o.err o.err_after given → Stops reads finds i request o
     stops-lines none front = inl (record {
@@ -121,7 +132,7 @@ module _ {S Z : Type 0} {reads : S → ℕ → Answer → S → Type 0} {finds :
       lines = subst (TookFront o.err o.err_after) (same ∙ all.4.errors_are) front;
     })
 
-    module _ (told : Option (List ℕ)) (wrote : Appends o.err told given) where
+    module _ (named : keep ≡ texts_named request.formats.entries.pieces.items) (told : Option (List ℕ)) (wrote : Appends o.err told given) where
       stops-writing : (shown : List ℕ) (token : Option (List ℕ)) → Shows files request shown token
           → ((o.err_after ≡ told) × TookFront o.out o.out_after shown) ⊎ (Appends o.out o.out_after shown × TookFront told o.err_after (more_line token)) →
           Stops reads finds i request o
@@ -132,7 +143,12 @@ module _ {S Z : Type 0} {reads : S → ℕ → Answer → S → Type 0} {finds :
         gave = all.3;
         told = told;
         lines = appends-same o.err told (same ∙ all.4.errors_are) wrote;
-        stops = record { shown = shown; token = token; shows = subst (λ these. Shows these request shown token) all.4.files_are shows; taken = taken };
+        stops = record {
+          shown = shown;
+          token = token;
+          shows = shows-whole request shown token (listed_files request.keep_going all.1 (reads_of i.names all.0)) all.4.files_are named shows;
+          taken = taken;
+        };
       })
 
       -- the listing failed
@@ -154,7 +170,7 @@ module _ {S Z : Type 0} {reads : S → ℕ → Answer → S → Type 0} {finds :
           gave = all.3;
           shown = some.0;
           token = token;
-          shows = subst (λ these. Shows these request some.0 token) all.4.files_are some.1;
+          shows = shows-whole request some.0 token (listed_files request.keep_going all.1 (reads_of i.names all.0)) all.4.files_are named some.1;
           text = some.2;
           errors = appends-both o.err told o.err_after (error_lines request.keep_going all.1 (reads_of i.names all.0)) (more_line token)
               (appends-same o.err told (same ∙ all.4.errors_are) wrote, more);

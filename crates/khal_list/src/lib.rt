@@ -7,6 +7,7 @@ mod entry;
 mod entry_text;
 mod every_day;
 mod heading;
+mod kept;
 mod laws;
 mod line;
 mod more;

@@ -8,6 +8,7 @@ ghost use Rattle.khal_ports.specs.Growth.{LeftByFault, LeftByFlush};
 ghost use Rattle.khal_list.specs.Headline.{Lists, Shown, ShownInPart, Shows, ShowsDays, ShowsOnce, Stops};
 
 use crate::every_day::EveryDay;
+use crate::kept::texts_named;
 use crate::more::put_more;
 use crate::printing::{print, print_days};
 use crate::request::Request;
@@ -158,6 +159,7 @@ pub fn run<S: Source, Z: ZoneSource, O: Sink, E: Sink>(
         window.from,
         window.to,
         request.keep_going,
+        texts_named(request),
     )?;
     put_all(err, &reading.errors)?;
     let status = reading.status();

@@ -14,18 +14,19 @@ returns-in_err-put_all-clause-stops g c =
 
 pub returns-in_err-token-clause-stops : goal.returns-in_err-token-clause-stops
 returns-in_err-token-clause-stops g c =
-    on_err c.from_residual-in_err-token.result (stops c.in_ok-reading.ensures.all c.deref.ensures.value (g.E.Sink.taken c.put_all.new.sink)
-    c.in_ok-put_all.ensures.ok refl c.in_err-token.ensures.err)
+    on_err c.from_residual-in_err-token.result (stops c.in_ok-reading.ensures.all c.deref.ensures.value c.texts_named.ensures
+    (g.E.Sink.taken c.put_all.new.sink) c.in_ok-put_all.ensures.ok refl c.in_err-token.ensures.err)
 
 pub returns-in_err-token-clause-cause : goal.returns-in_err-token-clause-cause
 returns-in_err-token-clause-cause g c = λ is. inl (c.in_err-token.ensures.cause (search rules))
 
 pub returns-in_err-put_more-clause-stops : goal.returns-in_err-put_more-clause-stops
 returns-in_err-put_more-clause-stops g c =
-    on_err c.from_residual-in_err-put_more.result (stops-more c.in_ok-reading.ensures.all c.deref.ensures.value (g.E.Sink.taken c.put_all.new.sink)
-    c.in_ok-put_all.ensures.ok (option_map string_bytes c.in_ok-token.token) c.in_ok-token.ensures.ok c.in_err-put_more.ensures.err)
+    on_err c.from_residual-in_err-put_more.result (stops-more c.in_ok-reading.ensures.all c.deref.ensures.value c.texts_named.ensures
+    (g.E.Sink.taken c.put_all.new.sink) c.in_ok-put_all.ensures.ok (option_map string_bytes c.in_ok-token.token) c.in_ok-token.ensures.ok
+    c.in_err-put_more.ensures.err)
 
 pub returns-clause-lists : goal.returns-clause-lists
 returns-clause-lists g c =
-    lists c.in_ok-reading.ensures.all c.deref.ensures.value (g.E.Sink.taken c.put_all.new.sink) c.in_ok-put_all.ensures.ok
+    lists c.in_ok-reading.ensures.all c.deref.ensures.value c.texts_named.ensures (g.E.Sink.taken c.put_all.new.sink) c.in_ok-put_all.ensures.ok
     (option_map string_bytes c.in_ok-token.token) c.in_ok-token.ensures.ok c.in_ok-put_more.ensures.ok c.status-status.result c.status-status.ensures
