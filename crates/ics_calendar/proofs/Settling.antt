@@ -1,7 +1,7 @@
 -- What is gathered of a file, settled: its first fault of the second round, or what it says.
-use Rattle.std.proofs.Common.{◌≡◌, ℕ, List, [], ◌∷◌, map, None}
+use Rattle.std.proofs.Common.{◌≡◌, ℕ, List, [], ◌∷◌, ◌++◌, map, None}
 use Rattle.std.specs.List.{All, Contains}
-use Rattle.std.proofs.lemmas.List.Elements.{All-nil, All-cons, All-contains}
+use Rattle.std.proofs.lemmas.List.Elements.{All-nil, All-cons, All-contains, All-head, All-tail}
 use Rattle.ics_components.specs.declared.parsed_file.CalendarEvent.{CalendarEvent}
 use Rattle.ics_components.specs.declared.parsed_file.LineCheck.{LineCheck}
 use Rattle.ics_calendar.specs.Settled.{event_in, known_in, first_judged, IsReady}
@@ -40,3 +40,9 @@ unresolved-sound g s = record { table = table-known g.zones; whole = s.events; s
 pub unresolved-with : {known : KnownZones} {ended : List CalendarEvent} {ws : List LineCheck} (files : GivenFiles) (names : List (List ℕ)) →
     IsSoundUnresolved known ended ws → IsSoundUnresolved (with_files known files names) ended ws
 unresolved-with {known} files names s = record { table = table-with known files names s.table; whole = s.whole; sound = s.sound }
+
+-- What holds of two lists together holds of each.
+pub all-parts : {X : Type 0} (P : X → Type 0) (xs ys : List X) → All P (xs ++ ys) → All P xs × All P ys
+all-parts P [] ys h = (All-nil P, h)
+all-parts P (x ∷ xs) ys h =
+    let rest = all-parts P xs ys (All-tail P x (xs ++ ys) h) in (All-cons P x xs (All-head P x (xs ++ ys) h) rest.0, rest.1)

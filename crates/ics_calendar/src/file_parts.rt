@@ -19,6 +19,7 @@ ghost use Rattle.ics_calendar.specs.Inner.SoundParts.{parts_said};
 ghost use Rattle.ics_calendar.specs.Inner.SoundParts.{wanted_by, said_with, zones_for};
 ghost use Rattle.ics_calendar.specs.ZoneTables.{given_by, known_by, name_cmp};
 
+use crate::gathered::Gathered;
 use crate::given_file::GivenFile;
 use crate::judged::first_judged;
 use crate::labels::Labels;
@@ -205,20 +206,15 @@ fn in_list(alloc: Global, named: BTreeSet<Fault>) -> Result<Vec<Fault>, AllocErr
 
 /// The events of the parts in which no fault stands.
 fn accepted(
-    alloc: Global,
     events: Vec<SoundEvent>,
     faults: &[Option<Fault>],
     later: &[Option<Fault>],
-) -> Result<Vec<SoundEvent>, AllocError>
-    ensures { IfOk result (λ accepted. accepted.items ≡ of_parts (λ part. is_sound faults.now part && is_sound later.now part) events.items) }
+) -> Vec<SoundEvent>
+    ensures { result.items ≡ of_parts (λ part. is_sound faults.now part && is_sound later.now part) events.items }
 {
-    let mut accepted = Vec::with_capacity(alloc, events.len())?;
-    for sound in events {
-        if is_sound(faults, sound.part) && is_sound(later, sound.part) {
-            accepted.push(sound)?;
-        }
-    }
-    Ok(accepted)
+    let mut accepted = events;
+    accepted.retain(|sound| is_sound(faults, sound.part) && is_sound(later, sound.part));
+    accepted
 }
 
 /// Adds these time zones of a calendar.
@@ -269,7 +265,7 @@ fn gathered(
     alloc: Global,
     sound: Vec<SoundEvent>,
     zones: Vec<CalendarZone>,
-) -> Result<ParsedFile, AllocError>
+) -> Result<Gathered, AllocError>
     ensures { IfOk result (λ parsed. parsed ≡ gathered_of sound.items zones.items) }
 {
     let mut events = Vec::with_capacity(alloc, sound.len())?;
@@ -284,14 +280,14 @@ fn gathered(
         drop(names);
         let ParsedFile {
             zones: none,
-            events: mut own,
+            events: own,
             checks: mut deferred,
         } = read;
         drop(none);
-        events.append(&mut own)?;
+        events.push(own)?;
         checks.append(&mut deferred)?;
     }
-    Ok(ParsedFile {
+    Ok(Gathered {
         zones,
         events,
         checks,
@@ -317,7 +313,7 @@ fn wanted_names(
 }
 
 /// What is gathered says with these zone files, or nothing where a fault stands in it.
-fn said(alloc: Global, parsed: ParsedFile, files: &ZoneFiles) -> Result<FileEvents, AllocError>
+fn said(alloc: Global, parsed: Gathered, files: &ZoneFiles) -> Result<FileEvents, AllocError>
     requires { IsSoundParsed parsed }
     ensures { IfOk result (λ file. said_by file ≡ said_with parsed (given_by files.now)) }
 {
@@ -472,7 +468,7 @@ impl FileParts {
         let later = later_faults(alloc, &table, &events, &faults)?;
         drop(table);
         let named = named_faults(alloc, fault, rest, &faults, &later, &events)?;
-        let events = accepted(alloc, events, &faults, &later)?;
+        let events = accepted(events, &faults, &later);
         let zones = zones_for(alloc, &events, zones)?;
         let parsed = gathered(alloc, events, zones)?;
         Ok(GivenFile {

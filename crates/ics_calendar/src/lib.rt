@@ -3,6 +3,7 @@
 
 mod event;
 mod file_parts;
+mod gathered;
 mod given_file;
 mod judged;
 mod labels;

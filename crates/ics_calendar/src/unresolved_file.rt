@@ -1,6 +1,6 @@
 //! Files in which the first round finds nothing.
-ghost use Rattle.std.specs.Prelude.{◌≡◌, ◌≤◌, length, map, None, IfOk, IfErr, OnOk};
-ghost use Rattle.std.specs.List.{All};
+ghost use Rattle.std.specs.Prelude.{◌≡◌, ◌≤◌, ◌++◌, length, map, None, IfOk, IfErr, OnOk};
+ghost use Rattle.std.specs.List.{All, flat_map};
 ghost use Rattle.ics_calendar.specs.UnresolvedFiles.{unresolved_said, IsFaultOf};
 ghost use Rattle.ics_calendar.specs.Inner.PartialFiles.{IsReadOrFront};
 ghost use Rattle.ics_calendar.specs.Files.{unresolved_of, SaysFile};
@@ -12,14 +12,14 @@ ghost use Rattle.ics_calendar.specs.Settled.{event_in, known_in, unresolved_by, 
 ghost use Rattle.ics_calendar.specs.ZoneTables.{given_by, known_by};
 
 use crate::event::event_of;
+use crate::gathered::Gathered;
 use crate::judged::first_judged;
 use crate::shared_zones::SharedZones;
 use crate::unknown_zones::{copied, unknown_names};
 use crate::zone_files::ZoneFiles;
 use crate::zone_table::ZoneTable;
 use ics_components::{
-    CalendarEvent, Fault, FileFault, FirstRead, Front, LineCheck, ParsedFile, Tzid, parse_file,
-    read_first,
+    CalendarEvent, Fault, FileFault, FirstRead, Front, LineCheck, Tzid, parse_file, read_first,
 };
 use ics_event::{Event, FileEvents, KeptTexts};
 use ics_text::numbers_rise;
@@ -30,13 +30,14 @@ use std::marker::Model;
 #[derive(Drop)]
 pub struct UnresolvedFile {
     table: ZoneTable,
-    events: Vec<CalendarEvent>,
+    events: Vec<Vec<CalendarEvent>>,
     checks: Vec<LineCheck>,
     wanted: Vec<Tzid>,
 }
 
 impl Model for UnresolvedFile {
     ghost use Rattle.std.specs.Coded.{codes};
+    ghost use Rattle.std.specs.List.{flat_map};
     ghost use Rattle.std.specs.Prelude.{◌≡◌};
     ghost use Rattle.ics_calendar.specs.contracts.zone_table.ZoneTable as zone_table;
     ghost use Rattle.ics_calendar.specs.UnresolvedFiles.{UnresolvedSeen, IsSoundUnresolved};
@@ -48,24 +49,49 @@ impl Model for UnresolvedFile {
 
     ghost coded = { Prim.hlevel (codes, zone_table.the_row.coded) };
 
-    ghost view = { λ a. record { table = a.table; events = a.events.items; checks = a.checks.items } };
+    ghost view = { λ a. record { table = a.table; events = flat_map (λ own. own.items) a.events.items; checks = a.checks.items } };
 
-    ghost invariant = { λ a. IsSoundUnresolved (known_by a.table) a.events.items a.checks.items
+    ghost invariant = { λ a. IsSoundUnresolved (known_by a.table) (flat_map (λ own. own.items) a.events.items) a.checks.items
         × (a.wanted.items ≡ each_once (all_unknown (known_by a.table).index a.checks.items)) };
+}
+
+/// How many events there are in all lists.
+fn number_in(lists: &[Vec<CalendarEvent>]) -> usize {
+    let mut number: usize = 0;
+    for own in lists {
+        number = number.saturating_add(own.len());
+    }
+    number
+}
+
+/// Adds events that have ended.
+fn add_events(
+    alloc: Global,
+    table: &ZoneTable,
+    events: &mut Vec<Event>,
+    ended: Vec<CalendarEvent>,
+) -> Result<(), AllocError>
+    requires { All (IsReady (known_by table.now)) ended.items }
+    ensures { IfOk result (λ _. events.new.items ≡ events.old.items ++ map (event_in (known_by table.now).index) ended.items) }
+{
+    for event in ended {
+        events.push(event_of(alloc, table, event)?)?;
+    }
+    Ok(())
 }
 
 /// The events that have ended.
 fn events_of(
     alloc: Global,
     table: &ZoneTable,
-    ended: Vec<CalendarEvent>,
+    ended: Vec<Vec<CalendarEvent>>,
 ) -> Result<Vec<Event>, AllocError>
-    requires { All (IsReady (known_by table.now)) ended.items }
-    ensures { IfOk result (λ events. events.items ≡ map (event_in (known_by table.now).index) ended.items) }
+    requires { All (IsReady (known_by table.now)) (flat_map (λ own. own.items) ended.items) }
+    ensures { IfOk result (λ events. events.items ≡ map (event_in (known_by table.now).index) (flat_map (λ own. own.items) ended.items)) }
 {
-    let mut events = Vec::with_capacity(alloc, ended.len())?;
-    for event in ended {
-        events.push(event_of(alloc, table, event)?)?;
+    let mut events = Vec::with_capacity(alloc, number_in(&ended))?;
+    for own in ended {
+        add_events(alloc, table, &mut events, own)?;
     }
     Ok(events)
 }
@@ -97,7 +123,8 @@ impl UnresolvedFile {
     {
         numbers_rise();
         let parsed = parse_file(alloc, keep, bytes)?;
-        Ok(UnresolvedFile::of_parsed(alloc, shared, parsed)?)
+        let gathered = Gathered::whole(alloc, parsed)?;
+        Ok(UnresolvedFile::of_parsed(alloc, shared, gathered)?)
     }
 
     /// The same with all texts, or the file's first fault and the events before it.
@@ -112,14 +139,15 @@ impl UnresolvedFile {
         numbers_rise();
         match read_first(alloc, KeptTexts::all(), bytes)? {
             FirstRead::Whole(parsed) => {
-                Ok(Ok(UnresolvedFile::of_parsed(alloc, shared, parsed)?))
+                let gathered = Gathered::whole(alloc, parsed)?;
+                Ok(Ok(UnresolvedFile::of_parsed(alloc, shared, gathered)?))
             }
             FirstRead::Faulty(fault, front) => Ok(Err((fault, front))),
         }
     }
 
     /// What is gathered of a file, with the names that it wants.
-    pub(crate) fn of(alloc: Global, parsed: ParsedFile) -> Result<UnresolvedFile, AllocError>
+    pub(crate) fn of(alloc: Global, parsed: Gathered) -> Result<UnresolvedFile, AllocError>
         requires { IsSoundParsed parsed }
         ensures { IfOk result (λ unresolved. unresolved_said unresolved ≡ unresolved_by (known_in parsed.zones) parsed.events parsed.checks) }
     {
@@ -131,12 +159,12 @@ impl UnresolvedFile {
     fn of_parsed(
         alloc: Global,
         shared: &mut SharedZones,
-        parsed: ParsedFile,
+        parsed: Gathered,
     ) -> Result<UnresolvedFile, AllocError>
         requires { IsSoundParsed parsed }
         ensures { IfOk result (λ unresolved. unresolved_said unresolved ≡ unresolved_by (known_in parsed.zones) parsed.events parsed.checks) }
     {
-        let ParsedFile {
+        let Gathered {
             zones,
             events,
             checks,

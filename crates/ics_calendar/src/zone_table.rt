@@ -71,20 +71,29 @@ impl ZoneTable {
         alloc: Global,
         shared: &mut SharedZones,
         zones: Vec<CalendarZone>,
-        events: &[CalendarEvent],
+        events: &[Vec<CalendarEvent>],
     ) -> Result<ZoneTable, AllocError>
         requires { All (λ z. IsSoundZone z.observances) zones.items }
         ensures { IfOk result (λ table. known_by table ≡ known_in zones.items) }
     {
         let mut table = ZoneTable::sharing(alloc, shared, zones)?;
         if table.zones.iter().any(|zone| zone.has_many()) {
-            table.note_each(events, shared.end());
+            table.note_all(events, shared.end());
             table.learn_each();
         }
         Ok(table)
     }
 
-    /// The zones take note of the locals of events, up to an instant as a clock in UTC shows them.
+    /// The zones take note of the locals of lists of events, up to an instant as a clock in UTC shows them.
+    fn note_all(&mut self, lists: &[Vec<CalendarEvent>], end: Moment)
+        ensures { known_by self.new ≡ known_by self.old }
+    {
+        for events in lists {
+            self.note_each(events, end);
+        }
+    }
+
+    /// The zones take note of the locals of events.
     fn note_each(&mut self, events: &[CalendarEvent], end: Moment)
         ensures { known_by self.new ≡ known_by self.old }
     {

@@ -15,8 +15,8 @@ use Rattle.ics_calendar.proofs.file_parts.FileParts.settle.Goals as goal
 pub said-requires : goal.said-requires
 said-requires c =
     subst IsSoundParsed (sym c.in_ok-parsed.ensures)
-    (gathered-sound c.in_ok-events.events.items c.in_ok-zones.zones.items
-    (rw c.in_ok-events.ensures (All-filter _ (λ sound. IsSoundParsed sound.read) c.self.inside.events.items c.self.invariant.0.sound_events))
+    (gathered-sound c.accepted-events.result.items c.in_ok-zones.zones.items
+    (rw c.accepted-events.ensures (All-filter _ (λ sound. IsSoundParsed sound.read) c.self.inside.events.items c.self.invariant.0.sound_events))
     (rw c.in_ok-zones.ensures (All-filter _ (λ z. IsSoundZone z.observances) c.self.inside.zones.items c.self.invariant.0.sound_zones)))
 
 pub returns : goal.returns
@@ -35,8 +35,8 @@ returns c =
       later = c.in_ok-later.later.items;
       count = c.in_ok-later.ensures.count ∙ ap (λ faults. length faults) c.deref-2.ensures.value;
       each = λ part less. c.in_ok-later.ensures.each part (rw c.deref-2.ensures.value less) ∙ (λ i. later_of (known i) (c.deref.ensures.value i) part);
-      accepted = c.in_ok-events.events.items;
-      accepts = c.in_ok-events.ensures
+      accepted = c.accepted-events.result.items;
+      accepts = c.accepted-events.ensures
           ∙ (λ i. of_parts (λ part. is_sound (c.deref-6.ensures.value i) part && is_sound (c.deref-7.ensures.value i) part) inside.events.items);
       zones = c.in_ok-zones.zones.items;
       named = c.in_ok-zones.ensures ∙ (λ i. zones_for (c.deref-8.ensures.value i) inside.zones.items);

@@ -1,4 +1,5 @@
 use Rattle.std.proofs.Common.{sym, ap, ◌∙◌, subst}
+use Rattle.std.specs.List.{flat_map}
 use Rattle.ics_calendar.specs.Settled.{all_unknown, known_in, unresolved_by}
 use Rattle.ics_calendar.specs.Wanted.{each_once}
 use Rattle.ics_calendar.specs.ZoneTables.{known_by}
@@ -15,5 +16,5 @@ invariant_of-result c = (
 
 pub returns : goal.returns
 returns c =
-    (λ i. unresolved_by (c.in_ok-table.ensures i) c.parsed.inside.events.items c.parsed.inside.checks.items)
+    (λ i. unresolved_by (c.in_ok-table.ensures i) (flat_map (λ own. own.items) c.parsed.inside.events.items) c.parsed.inside.checks.items)
     ∙ ap (λ (g : ParsedFileSeen). unresolved_by (known_in g.zones) g.events g.checks) c.parsed.view_is

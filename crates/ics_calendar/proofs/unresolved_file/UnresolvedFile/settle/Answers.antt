@@ -1,3 +1,4 @@
+use Rattle.std.specs.List.{flat_map}
 use Rattle.ics_calendar.specs.UnresolvedFiles.{IsSoundUnresolved}
 use Rattle.ics_calendar.specs.ZoneTables.{known_by, given_by}
 use Rattle.ics_calendar.proofs.Settling.{unresolved-with, ready, events-here}
@@ -5,7 +6,7 @@ use Rattle.ics_calendar.proofs.unresolved_file.UnresolvedFile.settle.Goals as go
 use Rattle.ics_calendar.proofs.unresolved_file.UnresolvedFile.settle.Goals.{In_default}
 
 -- with its zone files the unresolved file is sound still
-sound : (c : In_default) → IsSoundUnresolved (known_by c.in_ok-table.table) c.self.inside.events.items c.self.inside.checks.items
+sound : (c : In_default) → IsSoundUnresolved (known_by c.in_ok-table.table) (flat_map (λ own. own.items) c.self.inside.events.items) c.self.inside.checks.items
 sound c = rw c.in_ok-table.ensures (unresolved-with (given_by c.args.files.now) c.self.inside.wanted.items c.self.invariant.0)
 
 pub events_of-requires : goal.events_of-requires

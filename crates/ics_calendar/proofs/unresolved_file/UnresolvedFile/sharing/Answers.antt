@@ -1,7 +1,9 @@
-use Rattle.std.proofs.Common.{sym, ap, ◌∙◌, Ok}
+use Rattle.std.proofs.Common.{sym, ap, ◌∙◌, subst, Ok}
 use Rattle.std.proofs.lemmas.Result.{err_from_is_err_and}
 use Rattle.ics_components.specs.ParsedFileSeen.{ParsedFileSeen}
+use Rattle.ics_components.specs.ParsedFiles.{IsSoundParsed}
 use Rattle.ics_calendar.specs.Kept.{kept_unresolved}
+use Rattle.ics_calendar.specs.Settled.{known_in, unresolved_by}
 use Rattle.ics_calendar.proofs.KeptFiles.{unresolved-kept}
 use Rattle.ics_calendar.proofs.Whole.{unresolved_at, parsed, fault-parsed, whole-parsed}
 use Rattle.ics_calendar.proofs.unresolved_file.UnresolvedFile.sharing.Goals as goal
@@ -16,10 +18,14 @@ pub returns-clause-whole : goal.returns-clause-whole
 returns-clause-whole c =
     let says = c.in_ok-parsed.ensures.parsed in whole-parsed c.args.bytes.now says.0 (c.numbers_rise.ensures c.args.bytes.now) says.1
 
+pub of_parsed-requires : goal.of_parsed-requires
+of_parsed-requires c = subst IsSoundParsed (sym c.in_ok-gathered.ensures) c.in_ok-parsed.ensures.sound
+
 pub returns-clause-unresolved : goal.returns-clause-unresolved
 returns-clause-unresolved c =
     let says = c.in_ok-parsed.ensures.parsed in
     c.in_ok-of_parsed.ensures
+    ∙ (ap (λ (g : ParsedFileSeen). unresolved_by (known_in g.zones) g.events g.checks) c.in_ok-gathered.ensures
     ∙ (ap (λ (g : ParsedFileSeen). unresolved_at (Ok g)) says.2
     ∙ (unresolved-kept c.args.keep says.0
-    ∙ ap (kept_unresolved c.args.keep) (sym (parsed c.args.bytes.now (c.numbers_rise.ensures c.args.bytes.now) ∙ ap unresolved_at says.1))))
+    ∙ ap (kept_unresolved c.args.keep) (sym (parsed c.args.bytes.now (c.numbers_rise.ensures c.args.bytes.now) ∙ ap unresolved_at says.1)))))

@@ -4,6 +4,6 @@ use Rattle.ics_calendar.proofs.zone_table.ZoneTable.for_events.Goals.{then-any, 
 
 pub returns : goal.returns
 returns c = elim c.if-any.branch [
-  | then-any w ↦ rw w.table-is (w.learn_each.ensures ∙ w.note_each.ensures ∙ c.in_ok-table.ensures)
+  | then-any w ↦ rw w.table-is (w.learn_each.ensures ∙ w.note_all.ensures ∙ c.in_ok-table.ensures)
   | else-any w ↦ rw w.table-is c.in_ok-table.ensures
 ]
