@@ -1,5 +1,5 @@
 //! What is noted of the event or the time zone that is open.
-ghost use Rattle.std.specs.Prelude.{◌≡◌, [], IfOk, Some};
+ghost use Rattle.std.specs.Prelude.{◌≡◌, ◌∷◌, ◌++◌, [], IfOk, Some};
 ghost use Rattle.ics_components.specs.Inner.PartsPass.{here, noted, notes_begun, uids_on, texts_on};
 ghost use Rattle.ics_components.specs.PlacedLines.{named};
 ghost use Rattle.ics_components.specs.declared.name.Name.TheVariants as variant;
@@ -44,6 +44,17 @@ impl Model for OpenPart {
     } };
 }
 
+/// Adds an element to a list. Most have no other: a list that grows by itself takes room for several.
+fn push_one<T: Drop>(list: &mut Vec<T>, element: T) -> Result<(), AllocError>
+    ensures { IfOk result (λ _. list.new.items ≡ list.old.items ++ element ∷ []) }
+{
+    if list.is_empty() {
+        list.reserve_exact(1)?;
+    }
+    list.push(element)?;
+    Ok(())
+}
+
 impl OpenPart {
     /// Nothing is noted of what begins on the line with that number.
     pub fn new(alloc: Global, begun: u64, calendar: u64, is_event: bool) -> OpenPart
@@ -76,18 +87,18 @@ impl OpenPart {
             Name::Uid => {
                 let uid = Text::of_value(alloc, content.value())?;
                 if !uid.as_slice().is_empty() {
-                    self.uids.push(uid)?;
+                    push_one(&mut self.uids, uid)?;
                 }
             }
             Name::Tzid => {
                 let name = tzids.of_value(alloc, content.value())?;
-                self.names.push(name)?;
+                push_one(&mut self.names, name)?;
             }
             Name::RecurrenceId => self.is_doubtful = true,
             _ => {}
         }
         if let Some(name) = named_on(alloc, tzids, content)? {
-            self.zones.push(name)?;
+            push_one(&mut self.zones, name)?;
         }
         Ok(())
     }

@@ -116,6 +116,10 @@ impl ParsedFile {
     pub(crate) fn check(&mut self, line: u64, check: DeferredCheck) -> Result<(), AllocError>
         ensures { IfOk result (λ _. self.new ≡ and_line line (line_result Nothing (Some check)) self.old) }
     {
+        // most events defer one check or none: a list that grows by itself takes room for several
+        if self.checks.is_empty() {
+            self.checks.reserve_exact(1)?;
+        }
         self.checks.push(LineCheck { line, check })?;
         Ok(())
     }

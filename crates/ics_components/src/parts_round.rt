@@ -57,7 +57,7 @@ pub type HasParts = bool;
 fn uid_line(alloc: Global, text: &[u8]) -> Result<Vec<u8>, AllocError>
     ensures { IfOk result (λ line. line.items ≡ codes "UID:" ++ as_text text.now) }
 {
-    let mut line = Vec::new(alloc);
+    let mut line = Vec::with_capacity(alloc, text.len().saturating_add(4))?;
     line.extend_from_slice(b"UID:")?;
     let mut rest = text;
     while let [byte, behind @ ..] = rest {
@@ -295,7 +295,9 @@ impl PartsRound {
     fn take_made(&mut self, alloc: Global, file: &str, number: u64) -> Result<HasParts, AllocError>
         ensures { IfOk result (λ has. Steps has (uid_line file.now (here number None self.old.path)) self.old self.new) }
     {
-        let text = format!(in alloc; "{file}: line {number}")?;
+        // with room for all of it: a text that grows by itself is moved several times
+        let mut text = String::with_capacity(alloc, file.len().saturating_add(27))?;
+        write!(text, "{file}: line {number}")?;
         let line = uid_line(alloc, text.as_bytes())?;
         match uid_parts(&line) {
             Some(uid) => {
