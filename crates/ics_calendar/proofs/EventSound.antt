@@ -35,7 +35,8 @@ use Rattle.ics_components.specs.SecondRound.{zone_named, zone_check, instant_on,
 use Rattle.ics_components.specs.Sound.{IsSoundTime, IsSoundRdate}
 use Rattle.ics_components.specs.Values.{is_lasting, is_filled, is_out, is_bad_end, ends_badly}
 use Rattle.ics_event.specs.Event.{is_zoned, IsTime, IsWithin, IsEnd, IsLasting, IsLength, IsRdate, IsEvent, EndsBelow, RdateBelow}
-use Rattle.ics_event.specs.Event.{TimeBelow, EndsWithin, IsEventOf, AreEventsOf, compared, moment_in}
+use Rattle.ics_event.specs.Event.{TimeBelow}
+use Rattle.ics_file.specs.File.{EndsWithin, IsEventOf, AreEventsOf, compared, moment_in}
 use Rattle.ics_calendar.specs.DeferredChecks.{KnownZones, judged, moment_of}
 use Rattle.ics_calendar.specs.UnresolvedFiles.{IsTable}
 use Rattle.ics_calendar.specs.Events.{zone_at, start_in, given_length}

@@ -10,7 +10,7 @@ use Rattle.std.proofs.lemmas.Option.{get_or_from_slice_get, slice_get_within}
 use Rattle.ics_components.specs.declared.fault.Fault.{Fault}
 use Rattle.ics_components.specs.FirstFault.{first_fault}
 use Rattle.ics_components.specs.PlacedLines.{Placed}
-use Rattle.ics_event.specs.Event.{FileSaid}
+use Rattle.ics_file.specs.File.{FileSaid}
 use Rattle.ics_calendar.specs.DeferredChecks.{KnownZones}
 use Rattle.ics_calendar.specs.Files.{decide, later_fault, lines_say, said_of}
 use Rattle.ics_calendar.specs.GivenFiles.{GivenFiles}

@@ -10,8 +10,9 @@ use Rattle.ics_components.specs.declared.deferred_check.ZoneName.{ZoneName}
 use Rattle.ics_components.specs.declared.fault.Fault.{Fault}
 use Rattle.ics_components.specs.declared.parsed_file.CalendarEvent.{CalendarEvent}
 use Rattle.ics_components.specs.declared.parsed_file.LineCheck.{LineCheck}
-use Rattle.ics_event.specs.Event.{FileSaid}
-use Rattle.ics_event.specs.Kept.{kept_event, kept_said}
+use Rattle.ics_file.specs.File.{FileSaid}
+use Rattle.ics_event.specs.Kept.{kept_event}
+use Rattle.ics_file.specs.Kept.{kept_said}
 use Rattle.ics_calendar.specs.DeferredChecks.{KnownZones, with_files}
 use Rattle.ics_calendar.specs.Events.{event_of}
 use Rattle.ics_calendar.specs.Files.{UnresolvedSaid, decide}

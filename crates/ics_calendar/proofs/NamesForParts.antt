@@ -17,7 +17,7 @@ use Rattle.ics_components.proofs.Opened.{above, any-in}
 use Rattle.ics_components.proofs.PlacedApart.{AreParted, are_parted}
 use Rattle.ics_components.proofs.Placing.{in_place}
 use Rattle.ics_components.proofs.RestFaults.{filter-in, in-filter, never-both, right-or, two-of}
-use Rattle.ics_event.specs.Event.{FileSaid}
+use Rattle.ics_file.specs.File.{FileSaid}
 use Rattle.ics_calendar.specs.DeferredChecks.{KnownZones}
 use Rattle.ics_calendar.specs.Files.{decide, events_of, file_of, later_fault, lines_say, said_of, wanted_names}
 use Rattle.ics_calendar.specs.GivenFiles.{GivenFiles}

@@ -35,7 +35,7 @@ use Rattle.ics_components.proofs.Firsts.{finds-none}
 use Rattle.ics_components.proofs.NameLemmas.{context-tests}
 use Rattle.ics_components.proofs.Order.{inside}
 use Rattle.ics_components.proofs.RestFaults.{right-or}
-use Rattle.ics_event.specs.Event.{FileSaid}
+use Rattle.ics_file.specs.File.{FileSaid}
 use Rattle.ics_calendar.specs.Files.{decide, later_fault, lines_say, said_of}
 use Rattle.ics_calendar.specs.GivenFiles.{GivenFiles}
 use Rattle.ics_calendar.specs.Parts.{IsGiven, Part, accepted_parts, frames, is_in_part, is_of, is_zone_of, lines_of, needs, parts_of}

@@ -27,7 +27,7 @@ use Rattle.ics_components.proofs.ItemFaults.{IsIn}
 use Rattle.ics_components.proofs.Opened.{any-in}
 use Rattle.ics_components.proofs.PassLemmas.{parsed_from}
 use Rattle.ics_components.proofs.RestFaults.{in-filter, left-or, right-or, two-of}
-use Rattle.ics_event.specs.Event.{FileSaid}
+use Rattle.ics_file.specs.File.{FileSaid}
 use Rattle.ics_calendar.specs.DeferredChecks.{is_same, with_files}
 use Rattle.ics_calendar.specs.Files.{UnresolvedSaid, decide, later_fault, said_of}
 use Rattle.ics_calendar.specs.GivenFiles.{GivenFiles}

@@ -16,7 +16,7 @@ use Rattle.ics_components.specs.declared.fault.Fault.{Fault}
 use Rattle.ics_components.specs.declared.fault.FaultKind.{FaultKind}
 use Rattle.ics_components.specs.EventLines.{all_events, has_no_uid, has_uid, is_none_of, uids_of, with_uids}
 use Rattle.ics_components.specs.PlacedLines.{Placed, placed}
-use Rattle.ics_event.specs.Event.{FileSaid}
+use Rattle.ics_file.specs.File.{FileSaid}
 use Rattle.ics_calendar.specs.Files.{file_of, lines_say}
 use Rattle.ics_calendar.specs.GivenFiles.{GivenFiles}
 use Rattle.ics_calendar.specs.Parts.{IsGivenOrNamed, Part, accepted_parts, fault_cmp, fault_in, file_gives, in_order, is_parted, lines_of, parts_give}

@@ -5,7 +5,7 @@ use Rattle.ics_components.specs.EventLines.{with_uids}
 use Rattle.ics_components.specs.declared.fault.Fault.{Fault}
 use Rattle.ics_components.specs.FirstFault.{first_fault}
 use Rattle.ics_components.specs.PlacedLines.{placed}
-use Rattle.ics_event.specs.Event.{FileSaid}
+use Rattle.ics_file.specs.File.{FileSaid}
 use Rattle.ics_calendar.specs.Files.{file_of, wanted_names}
 use Rattle.ics_calendar.specs.GivenFiles.{GivenFiles}
 use Rattle.ics_calendar.specs.Parts.{file_gives, is_parted, names_for_parts, nothing_said, parts_give, parts_want}

@@ -20,7 +20,7 @@ use Rattle.ics_components.proofs.ItemFaults.{IsIn}
 use Rattle.ics_components.proofs.Opened.{any-in, in-any}
 use Rattle.ics_components.proofs.PlacedApart.{AreParted, are_parted}
 use Rattle.ics_components.proofs.RestFaults.{filter-in}
-use Rattle.ics_event.specs.Event.{FileSaid}
+use Rattle.ics_file.specs.File.{FileSaid}
 use Rattle.ics_calendar.specs.DeferredChecks.{KnownZones}
 use Rattle.ics_calendar.specs.Files.{UnresolvedSaid, decide, later_fault, lines_say, said_of}
 use Rattle.ics_calendar.specs.GivenFiles.{GivenFiles}

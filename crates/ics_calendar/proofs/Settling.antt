@@ -5,7 +5,7 @@ use Rattle.std.proofs.lemmas.List.Elements.{All-nil, All-cons, All-contains, All
 use Rattle.ics_components.specs.declared.parsed_file.CalendarEvent.{CalendarEvent}
 use Rattle.ics_components.specs.declared.parsed_file.LineCheck.{LineCheck}
 use Rattle.ics_calendar.specs.Settled.{event_in, known_in, first_judged, IsReady}
-use Rattle.ics_event.specs.Event.{AreEventsOf}
+use Rattle.ics_file.specs.File.{AreEventsOf}
 use Rattle.ics_components.specs.ParsedFiles.{IsSoundParsed}
 use Rattle.ics_components.specs.ParsedFileSeen.{ParsedFileSeen}
 use Rattle.ics_calendar.specs.DeferredChecks.{KnownZones, judged, with_files}

@@ -3,7 +3,8 @@ use Rattle.std.specs.Prelude.{◌≡◌, ◌⊎◌, ℕ, false, IsTrue, List, []
 use Rattle.std.specs.Prelude.{if◌then◌else◌}
 use Rattle.ics_text.specs.Unfolded.{Line, begins_with_fold, unfolded}
 use Rattle.ics_components.specs.declared.deferred_check.ZoneName.{ZoneName}
-use Rattle.ics_event.specs.Event.{EventSeen, FileSaid, FileSeen, said_by}
+use Rattle.ics_event.specs.Event.{EventSeen}
+use Rattle.ics_file.specs.File.{FileSaid, FileSeen, said_by}
 use Rattle.ics_calendar.specs.DeferredChecks.{KnownZones}
 use Rattle.ics_calendar.specs.GivenFiles.{GivenFiles}
 use Rattle.ics_calendar.specs.Wanted.{each_once, unknown_names, zones_with}

@@ -1,8 +1,8 @@
 -- WHAT A FILE SAYS AND GIVES where some texts of its events are not kept: the same, with the texts that are kept alone.
 use Rattle.std.specs.Prelude.{Result, Ok, Err}
 use Rattle.ics_components.specs.declared.fault.Fault.{Fault}
-use Rattle.ics_event.specs.Event.{FileSaid}
-use Rattle.ics_event.specs.Kept.{kept_said}
+use Rattle.ics_file.specs.File.{FileSaid}
+use Rattle.ics_file.specs.Kept.{kept_said}
 use Rattle.ics_values.specs.declared.kept_texts.KeptTexts.{KeptTexts}
 use Rattle.ics_calendar.specs.Files.{UnresolvedSaid}
 use Rattle.ics_calendar.specs.Parts.{Given}

@@ -1,4 +1,5 @@
 pub use Rattle.ics_event.specs.Event
+pub use Rattle.ics_file.specs.File
 pub use Rattle.ics_components.specs.FaultNames
 pub use Rattle.ics_components.specs.Names
 pub use Rattle.ics_components.specs.Components

@@ -14,7 +14,7 @@ use Rattle.ics_components.specs.FirstFault.{first_fault}
 use Rattle.ics_components.specs.Observances.{begins_zone}
 use Rattle.ics_components.specs.PartFaults.{is_within}
 use Rattle.ics_components.specs.PlacedLines.{Placed, calendar_of, in_calendar, innermost, is_end, is_named, placed}
-use Rattle.ics_event.specs.Event.{FileSaid}
+use Rattle.ics_file.specs.File.{FileSaid}
 use Rattle.ics_calendar.specs.Files.{file_of, lines_say, wanted_names}
 use Rattle.ics_calendar.specs.GivenFiles.{GivenFiles}
 use Rattle.ics_calendar.specs.Wanted.{each_once, unknown_names}

@@ -8,7 +8,8 @@ use Rattle.ics_components.specs.declared.deferred_check.ZoneName.{ZoneName}
 use Rattle.ics_components.specs.declared.fault.Fault.{Fault}
 use Rattle.ics_components.specs.Sound.{IsSoundEvent}
 use Rattle.ics_components.specs.FirstFault.{found}
-use Rattle.ics_event.specs.Event.{EventSeen, FileSaid}
+use Rattle.ics_event.specs.Event.{EventSeen}
+use Rattle.ics_file.specs.File.{FileSaid}
 use Rattle.ics_calendar.specs.DeferredChecks.{KnownZones, known_zones, with_files, judged, unknown_in}
 use Rattle.ics_calendar.specs.Files.{UnresolvedSaid, decide}
 use Rattle.ics_calendar.specs.Events.{event_of}

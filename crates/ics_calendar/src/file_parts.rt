@@ -6,7 +6,7 @@ ghost use Rattle.std.specs.List.{All, flat_map, list_all, list_any};
 ghost use Rattle.ics_components.specs.EventLines.{is_none_of};
 ghost use Rattle.ics_components.specs.declared.deferred_check.ZoneName.{ZoneName};
 ghost use Rattle.ics_components.specs.ParsedFiles.{IsSoundParsed};
-ghost use Rattle.ics_event.specs.Event.{said_by};
+ghost use Rattle.ics_file.specs.File.{said_by};
 ghost use Rattle.ics_calendar.specs.DeferredChecks.{is_same};
 ghost use Rattle.ics_calendar.specs.Parts.{fault_cmp, in_order};
 ghost use Rattle.ics_components.specs.Fronts.{IsFrontOf};
@@ -33,7 +33,7 @@ use ics_components::{
     CalendarZone, Fault, FileFault, Front, ParsedFile, PartedComponent, PartedFile, Tzid, ZoneName,
     lacks_uids, parse_parts, parse_parts_behind,
 };
-use ics_event::FileEvents;
+use ics_file::FileEvents;
 use std::alloc::{AllocError, Global};
 use std::collections::BTreeSet;
 use std::marker::Model;

@@ -4,7 +4,8 @@ ghost use Rattle.std.specs.Prelude.{◌≡◌, IfOk};
 ghost use Rattle.ics_calendar.specs.Kept.{kept_given};
 
 use ics_components::Fault;
-use ics_event::{FileEvents, KeptTexts};
+use ics_event::KeptTexts;
+use ics_file::FileEvents;
 use std::alloc::{AllocError, Global};
 use std::marker::Model;
 
@@ -17,7 +18,7 @@ pub struct GivenFile {
 
 impl Model for GivenFile {
     ghost use Rattle.ics_calendar.specs.Parts.{Given};
-    ghost use Rattle.ics_event.specs.Event.{said_by};
+    ghost use Rattle.ics_file.specs.File.{said_by};
 
     ghost Value = { Given };
 

@@ -4,7 +4,7 @@ ghost use Rattle.std.specs.List.{All, Contains};
 ghost use Rattle.ics_components.specs.declared.fault.FaultKind.{FaultKind};
 ghost use Rattle.ics_components.specs.DateValues.{OnePeriod};
 ghost use Rattle.ics_components.specs.PartFaults.{IsLeastOfBoth, IsLeastOfParts, StandsAlone, StandsApart};
-ghost use Rattle.ics_event.specs.Event.{FileSaid};
+ghost use Rattle.ics_file.specs.File.{FileSaid};
 ghost use Rattle.ics_components.specs.declared.fault.Fault.{Fault};
 ghost use Rattle.ics_calendar.specs.GivenFiles.{GivenFiles, no_files};
 ghost use Rattle.ics_calendar.specs.Files.{FaultsLookBack, IsFile, file_of, wanted_names};

@@ -22,7 +22,8 @@ mod zone_table;
 
 pub use given_file::GivenFile;
 pub use ics_components::{Fault, FaultKind, FileFault};
-pub use ics_event::{Event, FileEvents, Length, Rdate, Text, Time};
+pub use ics_event::{Event, Length, Rdate, Text, Time};
+pub use ics_file::FileEvents;
 pub use laws::{
     accepted_files_give_all, events_are_given_or_named, events_of_one_uid_stand_together,
     faults_look_back, files_are_one_thing, first_faults_are_named, one_period,

@@ -15,7 +15,7 @@ use crate::unknown_zones::copied;
 use crate::unresolved_file::UnresolvedFile;
 use crate::zone_files::ZoneFiles;
 use ics_components::{Fault, FileFault, Front};
-use ics_event::FileEvents;
+use ics_file::FileEvents;
 use std::alloc::{AllocError, Global};
 use std::marker::Model;
 

@@ -6,7 +6,7 @@ ghost use Rattle.ics_calendar.specs.GivenFiles.{files_by};
 use crate::unresolved_file::UnresolvedFile;
 use crate::zone_files::ZoneFiles;
 use ics_components::FileFault;
-use ics_event::FileEvents;
+use ics_file::FileEvents;
 use std::alloc::Global;
 
 /// The time zones and the events of a file of at most 16,777,216 bytes, or its first fault (RFC 5545, sections 3.4 and 3.6).

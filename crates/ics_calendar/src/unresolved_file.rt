@@ -21,7 +21,8 @@ use crate::zone_table::ZoneTable;
 use ics_components::{
     CalendarEvent, Fault, FileFault, FirstRead, Front, LineCheck, Tzid, parse_file, read_first,
 };
-use ics_event::{Event, FileEvents, KeptTexts};
+use ics_event::{Event, KeptTexts};
+use ics_file::FileEvents;
 use ics_text::numbers_rise;
 use std::alloc::{AllocError, Global};
 use std::marker::Model;

@@ -6,16 +6,16 @@ use Rattle.std.specs.Cmp.{int_ranks}
 use Rattle.std.specs.Cmp.Lexicographic.{slice_cmp}
 use Rattle.std.specs.Int.{saturate_signed}
 use Rattle.std.proofs.lemmas.Int.{ints}
-use Rattle.ics_event.specs.Event.{FileSaid}
-use Rattle.ics_series.specs.declared.window.Window.{Window}
-use Rattle.ics_series.specs.After.{after_key, is_after}
-use Rattle.ics_series.specs.Clocks.{Clock}
-use Rattle.ics_series.specs.Entry.{Entry, Rank, entry_cmp, rank_cmp, rank_of}
-use Rattle.ics_series.specs.Inner.EntryLaws.{entry_total}
-use Rattle.ics_series.specs.Listing.{IsListing}
+use Rattle.ics_file.specs.File.{FileSaid}
+use Rattle.ics_listing.specs.declared.window.Window.{Window}
+use Rattle.ics_listing.specs.After.{after_key, is_after}
+use Rattle.ics_listing.specs.FileClocks.{Clock}
+use Rattle.ics_listing.specs.Entry.{Entry, Rank, entry_cmp, rank_cmp, rank_of}
+use Rattle.ics_listing.specs.Inner.EntryLaws.{entry_total}
+use Rattle.ics_listing.specs.Listing.{IsListing}
 use Rattle.ics_series.specs.Meets.{IsListed, IsToCome}
 use Rattle.ics_series.specs.Inner.Masters.{IsSince}
-use Rattle.ics_series.proofs.ListingLemmas.{listing-filter, one-listing}
+use Rattle.ics_listing.proofs.ListingLemmas.{listing-filter, one-listing}
 use Rattle.ics_series.proofs.OnDayLemmas.{greater-behind}
 use Rattle.ics_series.proofs.ToComeLemmas.{lt-Less}
 use Rattle.ics_series.proofs.VersionLemmas.{subject_total}

@@ -3,34 +3,36 @@ use Rattle.std.proofs.Common.{◌≡◌, ℕ, zero, suc, ℤ, pos, ◌+ℤ◌, �
 use Rattle.std.proofs.Common.{◌∙◌, ap, subst, arith, ◌<ℤ◌, ◌≤ℤ◌, ◌&&◌, ◌||◌, int_lt, unsigned_abs, Result, Ok, Err, OnErr, filter, int_eq, ◌↔◌, ◌+◌, ◌≤◌, map}
 use Rattle.std.proofs.Common.{Some, sum_by, option_map, nat_cmp, Ordering}
 use Rattle.std.proofs.lemmas.Int.{ints, int_max_is, int_min_is}
-use Rattle.ics_event.specs.Event.{FileSaid}
+use Rattle.ics_file.specs.File.{FileSaid}
 use Rattle.ics_zone.specs.Seconds.{IsNear}
 use Rattle.ics_zone.proofs.Cases.{int_lt_true, less_or_not_z, true_int_lt}
-use Rattle.ics_series.specs.declared.window.Window.{Window}
-use Rattle.ics_series.specs.After.{is_after}
+use Rattle.ics_listing.specs.declared.window.Window.{Window}
+use Rattle.ics_listing.specs.After.{is_after}
 use Rattle.ics_series.specs.Ahead.{is_today, today, IsAheadOf, IsLater}
-use Rattle.ics_series.specs.Clocks.{Clock}
-use Rattle.ics_series.specs.OnDays.{day_rank_of, DayRank, first_near, last_near, Begins, IsNearDay, after_day_key, is_day_after, on_day, on_day_cmp}
-use Rattle.ics_series.specs.OnDays.{IsOnDay, OnDay}
+use Rattle.ics_listing.specs.FileClocks.{Clock}
+use Rattle.ics_listing.specs.DayKeys.{day_rank_of, DayRank, first_near, last_near, IsNearDay, after_day_key, is_day_after, on_day, on_day_cmp, OnDay}
+use Rattle.ics_series.specs.OnDays.{Begins, IsOnDay}
 use Rattle.ics_series.specs.OnDays.{IsBehindKey}
 use Rattle.ics_series.specs.DaySteps.{IsNearAgenda, IsPastAgenda, day_and_start, masters_in, AreDayMasters, AreMasters, IsDayMaster, IsFromStart, Scope}
 use Rattle.ics_series.specs.DaySteps.{begin_day, first_under, most_in, sum_days, AreDayBounds, HasDaysBound, IsLookedBefore}
-use Rattle.ics_series.specs.Entry.{Entry, Rank, entry_cmp, rank_of}
-use Rattle.ics_series.specs.Listing.{IsListing, IsIn}
+use Rattle.ics_listing.specs.Entry.{Entry, Rank, entry_cmp, rank_of}
+use Rattle.ics_listing.specs.Listing.{IsListing, IsIn}
 use Rattle.ics_series.specs.Meets.{IsListed, IsToCome, Meets}
 use Rattle.ics_series.specs.Occurs.{Occurs}
-use Rattle.ics_series.specs.Tokens.{IsDayKey, IsKey}
-use Rattle.ics_series.specs.Sources.{Source, master_of, recurring, uid_cmp, IsFrom, Recurring, master_at, AreSources, IsMasterOf}
-use Rattle.ics_series.proofs.ListingLemmas.{listing-filter, one-listing, relisted, all-in, all-as, sums-within, rises-on}
-use Rattle.ics_series.proofs.NearDayLemmas.{day-within, meets-near, near-first, near-last, occurs-forward, day-under}
+use Rattle.ics_listing.specs.Tokens.{IsDayKey, IsKey}
+use Rattle.ics_listing.specs.FeedSources.{Source, Recurring}
+use Rattle.ics_series.specs.Sources.{master_of, recurring, uid_cmp, IsFrom, master_at, AreSources, IsMasterOf}
+use Rattle.ics_listing.proofs.ListingLemmas.{listing-filter, one-listing, relisted, all-in, all-as, sums-within, rises-on}
+use Rattle.ics_listing.proofs.NearLemmas.{day-within, day-under}
+use Rattle.ics_series.proofs.NearDayLemmas.{meets-near, near-first, near-last, occurs-forward}
 use Rattle.ics_series.proofs.OnDayLemmas.{day-first, joined, none-listed, on_day_total, shown-today, today-listing, today-shown}
 use Rattle.ics_series.proofs.ToComeLemmas.{after-come, come-after, come-listed}
 use Rattle.std.proofs.lemmas.List.Sums.{sum_by-le}
 use Rattle.ics_series.specs.HeldMost.{Master, held_most, most_in_days}
 use Rattle.ics_series.specs.PlacedEvents.{Placed, clocks_at}
-use Rattle.ics_series.specs.Rising.{Rises}
+use Rattle.ics_listing.specs.Rising.{Rises}
 use Rattle.ics_series.specs.Steps.{HasStepBound}
-use Rattle.ics_series.proofs.Cases.{here-or-later}
+use Rattle.ics_listing.proofs.Cases.{here-or-later}
 use Rattle.ics_series.proofs.HoldingLaws.{sum_by-map}
 use Rattle.ics_fields.specs.Locals.{day_of_local}
 use Rattle.std.specs.Cmp.Lexicographic.{slice_cmp}

@@ -6,7 +6,7 @@ use Rattle.std.specs.Cmp.Lexicographic.{bytes_decides, slice_cmp}
 use Rattle.std.specs.Ordering.{int_cmp, on, ordering_reverse, ordering_then, then_cmp}
 use Rattle.std.specs.Cmp.{nat_cmp_is}
 use Rattle.std.proofs.lemmas.Cmp.{nat_cmp_total, nat_list_cmp_total}
-use Rattle.ics_series.proofs.Cases.{here-or-later}
+use Rattle.ics_listing.proofs.Cases.{here-or-later}
 use Rattle.ics_series.specs.Versions.{is_same, label_cmp, seen}
 use Rattle.ics_series.specs.declared.version.Version.{Version}
 use Rattle.std.specs.Option.{option_cmp}

@@ -12,15 +12,16 @@ use Rattle.ics_values.specs.declared.stamp.Stamp.{Stamp}
 use Rattle.ics_values.specs.declared.stamp.Stamp.TheVariants.{Date}
 use Rattle.ics_event.specs.Event.{Time}
 use Rattle.ics_zone.proofs.Cases.{int_le_true}
-use Rattle.ics_series.specs.declared.window.Window.{Window}
+use Rattle.ics_listing.specs.declared.window.Window.{Window}
 use Rattle.ics_series.specs.declared.zones.FileZones.{FileZones}
-use Rattle.ics_series.specs.Clocks.{Clock, Clocks, instant}
+use Rattle.ics_listing.specs.FileClocks.{Clock, Clocks}
+use Rattle.ics_series.specs.Clocks.{instant}
 use Rattle.ics_event.specs.Event.{stamp_seconds}
 use Rattle.ics_series.specs.Exclusions.{excludes_by, excludes_time, is_day_in, takes_out, with_instant}
 use Rattle.ics_series.specs.FileZones.{clocks_in, is_past}
 use Rattle.ics_series.proofs.InstantLemmas.{instant-near}
 use Rattle.ics_fields.specs.Locals.{whole_days}
-use Rattle.ics_series.proofs.ListingLemmas.{search-finds}
+use Rattle.ics_listing.proofs.ListingLemmas.{search-finds}
 
 -- Whether a search finds a number.
 pub found-in : (xs : List ℤ) (x : ℤ) (r : Result ℕ ℕ) → IsSorted int_cmp xs → IsSearchInRange r (length xs) → IsBinarySearchResult (λ y. int_cmp y x) xs r →

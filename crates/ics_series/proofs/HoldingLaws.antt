@@ -7,22 +7,23 @@ use Rattle.std.proofs.lemmas.List.{length-map}
 use Rattle.std.proofs.lemmas.List.Sums.{sum-map, sum_by-append, sum_by-cons}
 use Rattle.std.proofs.lemmas.Simd.{map-map}
 use Rattle.ics_event.specs.declared.event.Event.{Event}
-use Rattle.ics_series.specs.declared.occurrence.Occurrence.{Occurrence}
+use Rattle.ics_listing.specs.declared.occurrence.Occurrence.{Occurrence}
 use Rattle.ics_series.specs.declared.part.Part.{Part}
 use Rattle.ics_series.specs.declared.part.Part.TheVariants.{Singles, Series}
 use Rattle.ics_series.specs.declared.rule_starts.RuleStarts.{RuleStarts}
 use Rattle.ics_series.specs.declared.series.Series.{Series as SeriesFeed}
-use Rattle.ics_series.specs.declared.window.Window.{Window}
+use Rattle.ics_listing.specs.declared.window.Window.{Window}
 use Rattle.ics_series.specs.declared.zones.FileZones.{FileZones}
-use Rattle.ics_series.specs.Entry.{Entry, entry_cmp}
+use Rattle.ics_listing.specs.Entry.{Entry, entry_cmp}
 use Rattle.ics_series.specs.HeldMost.{held_most, most_in_days, Master}
 use Rattle.ics_series.specs.Holding.{part_holds, rule_held, series_holds, part_looked, rule_looked}
-use Rattle.ics_series.specs.Leads.{listed, AreNear}
+use Rattle.ics_listing.specs.Leads.{listed, AreNear}
 use Rattle.ics_series.specs.Meeting.{entry_from}
 use Rattle.ics_series.specs.AgendaParts.{part_sources, part_near}
 use Rattle.ics_series.specs.SeriesStarts.{first_of, HasOwnRule, rule_asked, IsAskedNear}
-use Rattle.ics_series.specs.Sources.{is_once, master_of, recurring, AreApart, Recurring, Source, uid_cmp}
-use Rattle.ics_series.specs.Sources.Source.{Of, Once}
+use Rattle.ics_series.specs.Sources.{is_once, master_of, recurring, AreApart, uid_cmp}
+use Rattle.ics_listing.specs.FeedSources.{Recurring, Source}
+use Rattle.ics_listing.specs.FeedSources.Source.{Of, Once}
 use Rattle.ics_series.specs.FileZones.{clocks_in}
 use Rattle.ics_series.proofs.RuleStepLemmas.{few-held, asked-number}
 use Rattle.std.specs.Cmp.Lexicographic.{slice_cmp}
@@ -31,19 +32,20 @@ use Rattle.std.proofs.lemmas.Int.{ints}
 use Rattle.ics_rule.specs.Cursors.{looks_from, is_met, period_count}
 use Rattle.ics_fields.specs.Locals.{local_seconds, number, midnight, whole_days, calendar_end}
 use Rattle.ics_rule.proofs.CursorLemmas.{few_steps, count_within}
-use Rattle.ics_series.specs.Inner.EntryLaws.{entry_total}
+use Rattle.ics_listing.specs.Inner.EntryLaws.{entry_total}
 use Rattle.ics_series.specs.Leeway.{seconds_off}
-use Rattle.ics_series.specs.Listing.{IsIn}
-use Rattle.ics_series.specs.Merged.{merged}
-use Rattle.ics_series.specs.Rising.{Rises}
+use Rattle.ics_listing.specs.Listing.{IsIn}
+use Rattle.ics_listing.specs.Merged.{merged}
+use Rattle.ics_listing.specs.Rising.{Rises}
 use Rattle.ics_series.specs.RuleStarts.{ends_at, midnight_number}
 use Rattle.ics_series.specs.SeriesFeed.{series_near}
 use Rattle.ics_series.specs.Singles.{is_single}
-use Rattle.ics_series.specs.Starts.{local_of, recurrence_of}
+use Rattle.ics_listing.specs.StartTimes.{local_of}
+use Rattle.ics_series.specs.Starts.{recurrence_of}
 use Rattle.ics_series.specs.Steps.{HasStepBound}
-use Rattle.ics_series.proofs.StartSourceLemmas.{number-seconds}
-use Rattle.ics_series.proofs.ListingLemmas.{not-less-itself, all-as, in-all}
-use Rattle.ics_series.proofs.UnionLemmas.{from-one, IsInOne, merged-in}
+use Rattle.ics_listing.proofs.StartOrderLemmas.{number-seconds}
+use Rattle.ics_listing.proofs.ListingLemmas.{not-less-itself, all-as, in-all}
+use Rattle.ics_listing.proofs.UnionLemmas.{from-one, IsInOne, merged-in}
 use Rattle.std.proofs.lemmas.Bool.Decides.{nat_tests}
 use Rattle.std.proofs.lemmas.Bool.{ltb-true, and_from, lt-ltb}
 use Rattle.ics_rule.specs.Candidates.{is_stepped, period_in}

@@ -12,7 +12,8 @@ use Rattle.ics_fields.specs.Days.{IsStampDay}
 use Rattle.ics_event.specs.Event.{Time}
 use Rattle.ics_event.specs.Event.{Length}
 use Rattle.ics_values.specs.declared.time.Length.TheVariants.{Open, Lasting, Until}
-use Rattle.ics_event.specs.Event.{compared, is_one_zone, stamp_seconds, EndsWithin, IsEnd, IsLength, IsTime, IsWithin, is_zoned, moment_by}
+use Rattle.ics_file.specs.File.{compared, is_one_zone, EndsWithin, moment_by}
+use Rattle.ics_event.specs.Event.{stamp_seconds, IsEnd, IsLength, IsTime, IsWithin, is_zoned}
 use Rattle.ics_zone.specs.Inner.Near.{moment_near, offset_near}
 use Rattle.ics_zone.specs.ZoneSaid.{ZoneSaid, display_said, said_moment, zone_said}
 use Rattle.ics_zone.specs.Seconds.{IsNear}
@@ -20,14 +21,15 @@ use Rattle.ics_zone.specs.declared.zone.ZoneKind.{ZoneKind}
 use Rattle.ics_zone.specs.Inner.ZoneBounds.{said_moment_near, said_offset_near}
 use Rattle.ics_zone.specs.declared.display.Display.{Display}
 use Rattle.ics_series.specs.declared.zones.FileZones.{FileZones}
-use Rattle.ics_series.specs.Clocks.{Clock, Clocks, clock_at, clock_by, display_clock, instant, utc_clock, zone_clock, day_of, local_at}
+use Rattle.ics_listing.specs.FileClocks.{Clock, Clocks, day_of}
+use Rattle.ics_series.specs.Clocks.{clock_at, clock_by, display_clock, instant, utc_clock, zone_clock, local_at}
 use Rattle.ics_fields.specs.Locals.{local_seconds, whole_days, midnight}
 use Rattle.ics_series.specs.Finish.{end_by, seconds_by, days_lasting, later_by, seconds_lasting}
 use Rattle.ics_series.specs.FileZones.{clocks_in, EndsNear}
-use Rattle.ics_series.specs.WindowBounds.{occurrence_first}
+use Rattle.ics_listing.specs.WindowBounds.{occurrence_first}
 use Rattle.ics_values.specs.declared.time.Rdate.TheVariants.{At}
 use Rattle.ics_event.specs.declared.event.Event.{Event}
-use Rattle.ics_series.specs.declared.window.Window.{Window}
+use Rattle.ics_listing.specs.declared.window.Window.{Window}
 use Rattle.ics_series.specs.Meeting.{entry_from}
 use Rattle.ics_series.specs.Meets.{Meets}
 

@@ -1,27 +1,31 @@
 -- Which texts the events of files have changes nothing of when they occur.
-use Rattle.std.proofs.Common.{◌≡◌, ◌≢◌, ◌⊎◌, ⊎_elim, inl, inr, ℕ, ℤ, List, [], ◌∷◌, map, Option, Some, None, refl, sym, ap, ◌∙◌, subst}
+use Rattle.std.proofs.Common.{◌≡◌, ◌≢◌, ⊎_elim, inl, inr, ℕ, ℤ, List, [], ◌∷◌, map, Option, Some, None, refl, sym, ap, ◌∙◌, subst}
 use Rattle.std.specs.Prelude.{slice_get}
 use Rattle.std.specs.Option.{option_map}
 use Rattle.std.specs.declared.cmp.Ordering.{Ordering}
 use Rattle.std.specs.declared.cmp.Ordering.TheVariants.{Less}
 use Rattle.std.proofs.lemmas.Option.{slice_get-map}
 use Rattle.ics_fields.specs.declared.local.Local.{Local}
-use Rattle.ics_event.specs.Event.{FileSaid, Rdate}
+use Rattle.ics_file.specs.File.{FileSaid}
+use Rattle.ics_event.specs.Event.{Rdate}
 use Rattle.ics_event.specs.declared.event.Event.{Event}
-use Rattle.ics_event.specs.Kept.{KeptTexts, kept_event, kept_said}
+use Rattle.ics_event.specs.Kept.{KeptTexts, kept_event}
+use Rattle.ics_file.specs.Kept.{kept_said}
 use Rattle.ics_series.specs.Chosen.{IsChosen, IsMaster, IsOverridden, IsOverride, subject_by, subject_of}
-use Rattle.ics_series.specs.Clocks.{Clock, Clocks, clocks_of}
-use Rattle.ics_series.specs.Entry.{Entry, entry_cmp}
-use Rattle.ics_series.specs.Listing.{IsIn, IsListing}
+use Rattle.ics_listing.specs.FileClocks.{Clock, Clocks}
+use Rattle.ics_series.specs.Clocks.{clocks_of}
+use Rattle.ics_listing.specs.Entry.{Entry, entry_cmp}
+use Rattle.ics_listing.specs.Listing.{IsIn, IsListing}
 use Rattle.ics_series.specs.Meets.{IsListed, Meets}
 use Rattle.ics_series.specs.Occurs.{IsInstance, IsMoved, IsOf, Occurs}
-use Rattle.ics_series.specs.OnDays.{IsOnDay, OnDay, is_on, on_day, on_day_cmp}
+use Rattle.ics_series.specs.OnDays.{IsOnDay, is_on}
+use Rattle.ics_listing.specs.DayKeys.{OnDay, on_day, on_day_cmp}
 use Rattle.ics_series.specs.PlacedEvents.{IsPlaced, Placed, clocks_at, placed_cmp, zones_of}
-use Rattle.ics_series.specs.Rising.{IsBefore, Rises}
+use Rattle.ics_listing.specs.Rising.{IsBefore, Rises}
 use Rattle.ics_series.specs.Starts.{GivesStart, IsRuleStart}
-use Rattle.ics_series.specs.declared.start.StartSource.{StartSource}
-use Rattle.ics_series.specs.declared.start.StartSource.TheVariants.{Kept, Listed}
-use Rattle.ics_series.specs.declared.window.Window.{Window}
+use Rattle.ics_listing.specs.declared.start.StartSource.{StartSource}
+use Rattle.ics_listing.specs.declared.start.StartSource.TheVariants.{Kept, Listed}
+use Rattle.ics_listing.specs.declared.window.Window.{Window}
 use Rattle.ics_series.proofs.OccursLemmas.{one-recurrence}
 use Rattle.ics_series.proofs.VersionLemmas.{in-map}
 

@@ -1,15 +1,10 @@
 pub mod AfterLemmas
 pub mod AheadLemmas
 pub mod BeginningLemmas
-pub mod BeginsLemmas
-pub mod Cases
 pub mod ExclusionLemmas
-pub mod FirstLemmas
 pub mod StartSourceLemmas
 pub mod HoldingLaws
 pub mod InstantLemmas
-pub mod LeadLemmas
-pub mod ListingLemmas
 pub mod MarkLemmas
 pub mod NearDayLemmas
 pub mod OccursLemmas
@@ -28,10 +23,7 @@ pub mod SoughtLemmas
 pub mod SourceLemmas
 pub mod SpanLemmas
 pub mod ToComeLemmas
-pub mod TokenLemmas
-pub mod TournamentLemmas
 pub mod UidLemmas
-pub mod UnionLemmas
 pub mod UntilLemmas
 pub mod VersionLemmas
 pub mod MoveLemmas

@@ -3,7 +3,7 @@ use Rattle.std.proofs.Common.{◌≡◌, ◌∙◌, ℕ, zero, suc, List, [], �
 use Rattle.std.proofs.Common.{⊎_elim, refl, sym, ap, subst, slice_get, option_map}
 use Rattle.std.specs.Option.{unwrap_or}
 use Rattle.std.proofs.lemmas.Option.{slice_get-map}
-use Rattle.ics_event.specs.Event.{FileSaid}
+use Rattle.ics_file.specs.File.{FileSaid}
 use Rattle.ics_event.specs.declared.event.Event.{Event}
 use Rattle.ics_rule.specs.Cursors.{looks_from}
 use Rattle.ics_series.specs.declared.mark.Mark.{Mark}
@@ -11,8 +11,8 @@ use Rattle.ics_series.specs.declared.series.Series.{Series}
 use Rattle.ics_series.specs.declared.version.Version.{Version}
 use Rattle.ics_series.specs.Inner.Marks.{AreMarks, HasNoMark, IsMarkOf, IsPut}
 use Rattle.ics_series.specs.SeriesFeed.{series_sources}
-use Rattle.ics_series.specs.Sources.{Recurring, Source}
-use Rattle.ics_series.specs.Sources.Source.{Of, Once}
+use Rattle.ics_listing.specs.FeedSources.{Recurring, Source}
+use Rattle.ics_listing.specs.FeedSources.Source.{Of, Once}
 use Rattle.ics_series.specs.Spots.{event_at}
 use Rattle.ics_series.specs.Versions.{seen, Label}
 

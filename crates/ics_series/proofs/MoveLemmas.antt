@@ -5,15 +5,16 @@ use Rattle.std.specs.Ordering.{ordering_then}
 use Rattle.std.proofs.lemmas.Cmp.{nat_cmp_total, tied_itself}
 use Rattle.std.proofs.lemmas.Bool.Decides.{nat_tests}
 use Rattle.std.proofs.lemmas.Map.Lookups.{exact_unsigned}
-use Rattle.ics_event.specs.Event.{FileSaid}
+use Rattle.ics_file.specs.File.{FileSaid}
 use Rattle.ics_event.specs.declared.event.Event.{Event}
 use Rattle.ics_series.specs.Chosen.{subject_by, subject_of, IsChosen, IsOverride, IsOverridden, SubjectSeen}
-use Rattle.ics_series.specs.Clocks.{Clock, clocks_of}
-use Rattle.ics_series.specs.Entry.{Entry}
+use Rattle.ics_listing.specs.FileClocks.{Clock}
+use Rattle.ics_series.specs.Clocks.{clocks_of}
+use Rattle.ics_listing.specs.Entry.{Entry}
 use Rattle.ics_series.specs.Laws.{AddedFiles, AreApart, AreReordered, HaveApartVersions, OrderOfFiles}
 use Rattle.ics_series.specs.Occurs.{Occurs}
 use Rattle.ics_series.specs.PlacedEvents.{Placed, IsPlaced, clocks_at, placed_cmp, zones_of}
-use Rattle.ics_series.proofs.Cases.{by-cases}
+use Rattle.ics_listing.proofs.Cases.{by-cases}
 
 -- the event, in the file that its own has become
 abbrev move : (ℕ → ℕ) → Placed → Placed

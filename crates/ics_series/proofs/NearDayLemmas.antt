@@ -1,33 +1,23 @@
 -- Midnights before and after an instant; the days of an occurrence lie near the instants at which it meets the window.
-use Rattle.std.proofs.Common.{◌≡◌, List, ℤ, pos, ◌+ℤ◌, ◌-ℤ◌, ◌⊎◌, inl, inr, ⊎_elim, true, false, refl, sym, ◌∙◌, arith, negsuc, ◌*ℤ◌, ◌<ℤ◌, ◌≤ℤ◌, int_le}
+use Rattle.std.proofs.Common.{◌≡◌, List, ℤ, pos, ◌+ℤ◌, ◌-ℤ◌, ◌⊎◌, inl, inr, ⊎_elim, true, false, refl, sym, ◌∙◌, arith, ◌<ℤ◌, ◌≤ℤ◌, int_le}
 use Rattle.std.proofs.Common.{if◌then◌else◌, int_eq}
-use Rattle.std.specs.Int.{int_max, int_min, int_div_euclid}
+use Rattle.std.specs.Int.{int_max, int_min}
 use Rattle.std.proofs.lemmas.Int.{int_max_is, int_min_is, ints}
 use Rattle.std.proofs.lemmas.Bool.{and_parts}
-use Rattle.ics_event.specs.Event.{FileSaid}
+use Rattle.ics_file.specs.File.{FileSaid}
 use Rattle.ics_zone.specs.Seconds.{IsNear}
 use Rattle.ics_zone.proofs.Cases.{int_le_true, less_or_not_z}
 use Rattle.ics_fields.specs.Locals.{midnight, day_of_local}
-use Rattle.ics_series.specs.declared.window.Window.{Window}
-use Rattle.ics_series.specs.Clocks.{Clock, local_at}
-use Rattle.ics_series.specs.OnDays.{date_at, end_day, first_day, is_on, last_day, first_near, last_near}
-use Rattle.ics_series.specs.Entry.{Entry}
+use Rattle.ics_listing.specs.declared.window.Window.{Window}
+use Rattle.ics_listing.specs.FileClocks.{Clock}
+use Rattle.ics_series.specs.Clocks.{local_at}
+use Rattle.ics_series.specs.OnDays.{date_at, end_day, first_day, is_on, last_day}
+use Rattle.ics_listing.specs.DayKeys.{first_near, last_near}
+use Rattle.ics_listing.specs.Entry.{Entry}
 use Rattle.ics_series.specs.Meets.{Meets}
 use Rattle.ics_series.specs.Occurs.{Occurs}
-use Rattle.ics_series.specs.Meeting.{is_met}
-
--- the day of some seconds
-pub day-under : (seconds day : ℤ) → day ≡ int_div_euclid seconds (pos 86_400) →
-    ((day *ℤ pos 86_400) ≤ℤ seconds) × (seconds <ℤ (day *ℤ pos 86_400 +ℤ pos 86_400))
-day-under (pos n) day e = (omega (arith, ints, e), omega (arith, ints, e))
-day-under (negsuc n) day e = (omega (arith, ints, e), omega (arith, ints, e))
-
--- a window holds something of the five days about one that a clock can show in it
-pub day-within : (w : Window) (day : ℤ) → first_near w ≤ℤ day → day ≤ℤ last_near w → (w.from <ℤ midnight (day +ℤ pos 3)) × (midnight (day -ℤ pos 2) <ℤ w.to)
-day-within w day low high =
-    let first = day-under w.from (day_of_local w.from) refl in
-    let last = day-under (w.to -ℤ pos 1) (day_of_local (w.to -ℤ pos 1)) refl in
-    (omega (arith, ints, first.1, low), omega (arith, ints, last.0, high))
+use Rattle.ics_listing.specs.WindowMeeting.{is_met}
+use Rattle.ics_listing.proofs.NearLemmas.{day-under}
 
 -- an occurrence ends where it starts, or later
 pub occurs-forward : (files : List FileSaid) (display : Clock) (o : Entry) → Occurs files display o → o.start ≤ℤ o.finish

@@ -1,10 +1,11 @@
 -- No two occurrences of a folder have one UID and one recurrence.
 use Rattle.std.proofs.Common.{◌≡◌, ℕ, ℤ, List, Option, Some, None, inl, inr, sym, ◌∙◌, ap, subst, option_map}
-use Rattle.ics_event.specs.Event.{FileSaid}
+use Rattle.ics_file.specs.File.{FileSaid}
 use Rattle.ics_event.specs.declared.event.Event.{Event}
 use Rattle.ics_series.specs.Chosen.{subject_of, SubjectSeen, IsMaster, IsOverride}
-use Rattle.ics_series.specs.Clocks.{Clock, Clocks, instant}
-use Rattle.ics_series.specs.Entry.{Entry}
+use Rattle.ics_listing.specs.FileClocks.{Clock, Clocks}
+use Rattle.ics_series.specs.Clocks.{instant}
+use Rattle.ics_listing.specs.Entry.{Entry}
 use Rattle.ics_series.specs.Occurs.{IsMoved, IsOf, IsOfMaster, IsOfOverride, Occurs}
 use Rattle.ics_series.specs.PlacedEvents.{Placed, clocks_at}
 use Rattle.ics_series.proofs.StartSourceLemmas.{one-instance}

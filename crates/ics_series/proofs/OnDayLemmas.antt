@@ -5,20 +5,21 @@ use Rattle.std.specs.Ordering.{ordering_then}
 use Rattle.std.proofs.Common.{◌≡◌, ℤ, List, [], ◌∷◌, ◌++◌, map, ◌⊎◌, inl, inr, ⊎_elim, true, refl, sym, ◌∙◌, ap, subst, Some, cond, ◌<ℤ◌, is_lt, Ordering, Less}
 use Rattle.std.proofs.lemmas.Cmp.{int_cmp_total, on_total, then_total, tied_itself}
 use Rattle.std.proofs.lemmas.Bool.{and_from, and_parts}
-use Rattle.ics_event.specs.Event.{FileSaid}
+use Rattle.ics_file.specs.File.{FileSaid}
 use Rattle.ics_zone.specs.Seconds.{IsNear}
-use Rattle.ics_series.specs.declared.window.Window.{Window}
+use Rattle.ics_listing.specs.declared.window.Window.{Window}
 use Rattle.ics_series.specs.Ahead.{is_today, today}
-use Rattle.ics_series.specs.Clocks.{Clock}
-use Rattle.ics_series.specs.OnDays.{is_on, day_rank_of, on_day, on_day_cmp, IsOnDay, OnDay, after_day_key}
-use Rattle.ics_series.specs.Entry.{Entry, entry_cmp, rank_cmp, rank_of}
-use Rattle.ics_series.specs.Inner.EntryLaws.{rank_total}
-use Rattle.ics_series.specs.Listing.{IsIn, IsListing}
-use Rattle.ics_series.specs.Meeting.{is_met}
+use Rattle.ics_listing.specs.FileClocks.{Clock}
+use Rattle.ics_series.specs.OnDays.{is_on, IsOnDay}
+use Rattle.ics_listing.specs.DayKeys.{day_rank_of, on_day, on_day_cmp, OnDay, after_day_key}
+use Rattle.ics_listing.specs.Entry.{Entry, entry_cmp, rank_cmp, rank_of}
+use Rattle.ics_listing.specs.Inner.EntryLaws.{rank_total}
+use Rattle.ics_listing.specs.Listing.{IsIn, IsListing}
+use Rattle.ics_listing.specs.WindowMeeting.{is_met}
 use Rattle.ics_series.specs.Occurs.{Occurs}
-use Rattle.ics_series.specs.Rising.{IsBefore, Rises}
-use Rattle.ics_series.proofs.BeginsLemmas.{over}
-use Rattle.ics_series.proofs.ListingLemmas.{listing-filter, before-in, rises-on, in-append, in-append_left, in-append_right}
+use Rattle.ics_listing.specs.Rising.{IsBefore, Rises}
+use Rattle.ics_listing.proofs.BeginsLemmas.{over}
+use Rattle.ics_listing.proofs.ListingLemmas.{listing-filter, before-in, rises-on, in-append, in-append_left, in-append_right}
 use Rattle.ics_series.proofs.VersionLemmas.{in-map, map-in}
 use Rattle.ics_series.proofs.NearDayLemmas.{is_met-meets, meets-is_met}
 

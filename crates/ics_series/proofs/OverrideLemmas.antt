@@ -9,17 +9,16 @@ use Rattle.std.specs.Cmp.Lexicographic.{slice_cmp}
 use Rattle.std.specs.Ordering.{on, ordering_reverse, ordering_then}
 use Rattle.std.proofs.lemmas.Cmp.{on_total, tied_itself}
 use Rattle.std.proofs.lemmas.Map.Keys.{Less-from_sorted}
-use Rattle.ics_event.specs.Event.{FileSaid}
+use Rattle.ics_file.specs.File.{FileSaid}
 use Rattle.ics_series.specs.declared.version.Version.{Version}
 use Rattle.ics_series.specs.Chosen.{subject_of, IsOverridden, SubjectSeen}
-use Rattle.ics_series.specs.Clocks.{Clock}
-use Rattle.ics_series.specs.Inner.MergedLaws.{rises-filter}
-use Rattle.ics_series.specs.Rising.{Rises}
+use Rattle.ics_listing.specs.FileClocks.{Clock}
+use Rattle.ics_listing.specs.Inner.MergedLaws.{rises-filter}
+use Rattle.ics_listing.specs.Rising.{Rises}
 use Rattle.ics_series.specs.Versions.{is_named, is_override, label_of, seen, subject_cmp, subject_seen, AreChosen, Label}
-use Rattle.ics_series.proofs.Cases.{eq-Equal}
+use Rattle.ics_listing.proofs.Cases.{eq-Equal}
 use Rattle.ics_series.proofs.VersionLemmas.{in-map, map-in, exact-subject, subject_total}
-use Rattle.ics_series.proofs.ListingLemmas.{strictly-sorted}
-use Rattle.ics_series.proofs.ListingLemmas.{any-in, in-any, search-finds, rises-on}
+use Rattle.ics_listing.proofs.ListingLemmas.{strictly-sorted, any-in, in-any, search-finds, rises-on}
 use Rattle.ics_series.proofs.OccursLemmas.{override-subject}
 
 -- The versions that count are sorted by subject.

@@ -18,23 +18,25 @@ use Rattle.ics_rule.specs.Next.{IsNextKept, NoneKept}
 use Rattle.ics_rule.specs.Recurrence.{Recurrence}
 use Rattle.ics_zone.proofs.Cases.{less_or_not_z}
 use Rattle.ics_series.specs.declared.rule_starts.RuleStarts.{RuleStarts}
-use Rattle.ics_series.specs.declared.start.StartSource.{StartSource}
-use Rattle.ics_series.specs.declared.start.StartSource.TheVariants.{Kept, Listed}
-use Rattle.ics_series.specs.declared.window.Window.{Window}
+use Rattle.ics_listing.specs.declared.start.StartSource.{StartSource}
+use Rattle.ics_listing.specs.declared.start.StartSource.TheVariants.{Kept, Listed}
+use Rattle.ics_listing.specs.declared.window.Window.{Window}
 use Rattle.ics_series.specs.declared.zones.FileZones.{FileZones}
-use Rattle.ics_series.specs.Clocks.{Clocks, instant}
+use Rattle.ics_listing.specs.FileClocks.{Clocks}
+use Rattle.ics_series.specs.Clocks.{instant}
 use Rattle.ics_series.specs.Found.{earliest}
 use Rattle.ics_series.specs.FileZones.{clocks_in, IsOwnEvent}
 use Rattle.ics_series.specs.Inner.Quiet.{starts_by, AreBeyond, AreListedAgain, AreQuiet, IsFromOn, IsQuietTo}
 use Rattle.ics_series.specs.RuleStarts.{lets_until, moment_numbered, settled_by}
 use Rattle.ics_series.specs.SeriesStarts.{first_of, listed_apart, HasOwnRule, IsOwnRule}
-use Rattle.ics_series.specs.Starts.{local_of, recurrence_by, recurrence_of, time_at, time_of, GivesStart, IsRuleStart}
+use Rattle.ics_listing.specs.StartTimes.{local_of, time_at, time_of}
+use Rattle.ics_series.specs.Starts.{recurrence_by, recurrence_of, GivesStart, IsRuleStart}
 use Rattle.ics_series.proofs.RawLemmas.{kept-first}
 use Rattle.ics_series.proofs.RuleDayLemmas.{number-day}
 use Rattle.ics_series.proofs.SettledLemmas.{late-settled}
 use Rattle.ics_series.proofs.SoughtLemmas.{earliest-soon, late-event}
-use Rattle.ics_series.proofs.StartSourceLemmas.{calendar-day, kept-late, number-seconds, numbered-number, own-day, own-time, rule-first, ruled-kept}
-use Rattle.ics_series.proofs.StartSourceLemmas.{same-number}
+use Rattle.ics_listing.proofs.StartOrderLemmas.{calendar-day, number-seconds, own-day, own-time, same-number}
+use Rattle.ics_series.proofs.StartSourceLemmas.{kept-late, numbered-number, rule-first, ruled-kept}
 
 -- what is not before an instant is not before an earlier one
 pub again-less : {clocks : Clocks} {event : Event} {from t u : ℤ} → u ≤ℤ t → AreListedAgain clocks event from t → AreListedAgain clocks event from u

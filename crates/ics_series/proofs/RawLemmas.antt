@@ -14,27 +14,30 @@ use Rattle.ics_event.specs.Event.{IsTime, IsRdate}
 use Rattle.ics_event.specs.declared.event.Event.{Event}
 use Rattle.ics_event.specs.Event.{Rdate}
 use Rattle.ics_values.specs.declared.time.Rdate.TheVariants.{At}
-use Rattle.ics_series.specs.declared.start.StartSource.{StartSource}
-use Rattle.ics_series.specs.declared.start.StartSource.TheVariants.{Kept, Listed}
-use Rattle.ics_series.specs.Clocks.{Clocks, instant}
-use Rattle.ics_series.specs.Found.{source_cmp, moment_cmp, start_at}
+use Rattle.ics_listing.specs.declared.start.StartSource.{StartSource}
+use Rattle.ics_listing.specs.declared.start.StartSource.TheVariants.{Kept, Listed}
+use Rattle.ics_listing.specs.FileClocks.{Clocks}
+use Rattle.ics_series.specs.Clocks.{instant}
+use Rattle.ics_listing.specs.StartOrder.{source_cmp, moment_cmp}
+use Rattle.ics_series.specs.Found.{start_at}
 use Rattle.ics_series.specs.HeldMost.{is_within_days, raw_by, raw_by_rule, raw_in, raw_listed, IsRaw, greatest, most_in_days}
-use Rattle.ics_series.specs.Listing.{IsListing, IsIn}
-use Rattle.ics_series.specs.Inner.MergedLaws.{back}
+use Rattle.ics_listing.specs.Listing.{IsListing, IsIn}
+use Rattle.ics_listing.specs.Inner.MergedLaws.{back}
 use Rattle.ics_series.specs.RuleStarts.{lets_until, local_numbered, moment_numbered, number_in, AreHeld, IsHeld}
-use Rattle.ics_series.specs.Starts.{given_by, local_of, recurrence_of, time_at, time_of, GivesStart, IsNotAfter, IsRuleStart, recurrence_by}
-use Rattle.ics_series.proofs.Cases.{below-or-last, some-same, equal-true, true-equal}
-use Rattle.ics_series.proofs.FirstLemmas.{source-order, source_total, moment_total}
-use Rattle.ics_series.proofs.StartSourceLemmas.{own-time, kept-calendar, kept-ruled, number-numbered, numbered-number, ruled-kept, gives-value, rdate-time}
-use Rattle.ics_series.proofs.StartSourceLemmas.{calendar-day, kept-late, number-seconds, own-day, rule-first}
+use Rattle.ics_series.specs.Starts.{given_by, recurrence_of, GivesStart, IsRuleStart, recurrence_by}
+use Rattle.ics_listing.specs.StartTimes.{local_of, time_at, time_of, IsNotAfter}
+use Rattle.ics_listing.proofs.Cases.{below-or-last, some-same, equal-true, true-equal}
+use Rattle.ics_listing.proofs.FirstLemmas.{source-order, source_total, moment_total}
+use Rattle.ics_listing.proofs.StartOrderLemmas.{own-time, rdate-time, calendar-day, number-seconds, own-day}
+use Rattle.ics_series.proofs.StartSourceLemmas.{kept-calendar, kept-ruled, number-numbered, numbered-number, ruled-kept, gives-value, kept-late, rule-first}
 use Rattle.ics_series.proofs.OnDayLemmas.{joined, none-listed}
 use Rattle.ics_zone.proofs.Cases.{true_int_lt, true_int_le, int_lt_true, int_le_true}
-use Rattle.ics_series.specs.declared.start.Start.{Start}
-use Rattle.ics_series.specs.declared.window.Window.{Window}
+use Rattle.ics_listing.specs.declared.start.Start.{Start}
+use Rattle.ics_listing.specs.declared.window.Window.{Window}
 use Rattle.ics_series.specs.declared.zones.FileZones.{FileZones}
-use Rattle.ics_series.specs.Rising.{Rises}
+use Rattle.ics_listing.specs.Rising.{Rises}
 use Rattle.ics_series.specs.FileZones.{clocks_in}
-use Rattle.ics_series.proofs.ListingLemmas.{sums-within, before-in}
+use Rattle.ics_listing.proofs.ListingLemmas.{sums-within, before-in}
 use Rattle.ics_series.proofs.RuleDayLemmas.{given-parts, in-rules}
 use Rattle.ics_series.proofs.InstantLemmas.{early, late}
 use Rattle.std.proofs.lemmas.List.Folds.{list_any_at}

@@ -2,47 +2,52 @@
 use Rattle.std.proofs.Common.{◌≡◌, ◌<ℤ◌, ℤ, List, map, length, Option, Some, None, Bool, true, false, refl, sym, ◌∙◌, ap, subst, arith, ◌≤ℤ◌, ◌||◌, ◌&&◌}
 use Rattle.std.proofs.Common.{◌==◌, int_le, is_none, is_some, option_map, [], ◌∷◌, inl, inr, ⊎_elim, is_gt}
 use Rattle.std.proofs.lemmas.Int.{ints}
-use Rattle.ics_event.specs.Event.{FileSaid, IsEvent}
+use Rattle.ics_file.specs.File.{FileSaid}
+use Rattle.ics_event.specs.Event.{IsEvent}
 use Rattle.ics_event.specs.declared.event.Event.{Event}
 use Rattle.ics_event.specs.Event.{Time}
 use Rattle.ics_zone.proofs.Cases.{true_int_le, int_le_true}
 use Rattle.ics_series.specs.declared.version.Version.{Version}
-use Rattle.ics_series.specs.declared.window.Window.{Window}
+use Rattle.ics_listing.specs.declared.window.Window.{Window}
 use Rattle.ics_series.specs.declared.zones.FileZones.{FileZones}
-use Rattle.ics_series.specs.Clocks.{Clock, Clocks, instant}
-use Rattle.ics_series.specs.Entry.{Entry, Rank, entry_cmp}
-use Rattle.ics_series.specs.Listing.{IsIn, IsListing}
+use Rattle.ics_listing.specs.FileClocks.{Clock, Clocks}
+use Rattle.ics_series.specs.Clocks.{instant}
+use Rattle.ics_listing.specs.Entry.{Entry, Rank, entry_cmp}
+use Rattle.ics_listing.specs.Listing.{IsIn, IsListing}
 use Rattle.ics_series.specs.Inner.Masters.{IsOfVersion, IsSince, Recurs}
-use Rattle.ics_series.specs.After.{is_after}
+use Rattle.ics_listing.specs.After.{is_after}
 use Rattle.ics_series.specs.Occurs.{IsOf}
 use Rattle.ics_series.specs.Overridden.{is_kept}
 use Rattle.ics_series.specs.PlacedEvents.{Placed, clocks_at}
 use Rattle.ics_series.specs.SeriesStarts.{given_of, IsSeriesMet}
 use Rattle.ics_series.specs.Singles.{is_single}
 use Rattle.ics_series.specs.Spots.{event_at}
-use Rattle.ics_series.specs.Starts.{time_of, GivesStart, IsNotAfter}
+use Rattle.ics_listing.specs.StartTimes.{time_of, IsNotAfter}
+use Rattle.ics_series.specs.Starts.{GivesStart}
 use Rattle.ics_series.specs.Versions.{label_of, seen, AreChosen, Label}
 use Rattle.ics_series.specs.FileZones.{clocks_in}
 use Rattle.ics_series.proofs.SeriesLemmas.{series-listing as listing-by, put-has}
 use Rattle.ics_series.specs.Meets.{Meets, IsToCome}
-use Rattle.ics_series.proofs.Cases.{some-same}
+use Rattle.ics_listing.proofs.Cases.{some-same}
 use Rattle.ics_series.proofs.VersionLemmas.{in-map, placed-event, IsGiven}
-use Rattle.ics_series.proofs.StartSourceLemmas.{gives-value, rdate-time, same-given}
+use Rattle.ics_series.proofs.StartSourceLemmas.{gives-value, same-given}
+use Rattle.ics_listing.proofs.StartOrderLemmas.{rdate-time}
 use Rattle.ics_series.proofs.InstantLemmas.{late}
 use Rattle.ics_series.proofs.ToComeLemmas.{to-come}
-use Rattle.ics_series.specs.WindowBounds.{occurrence_first}
+use Rattle.ics_listing.specs.WindowBounds.{occurrence_first}
 use Rattle.std.proofs.lemmas.Cmp.{tied_itself}
 use Rattle.ics_event.specs.Event.{Rdate}
-use Rattle.ics_series.specs.declared.start.StartSource.{StartSource}
-use Rattle.ics_series.specs.declared.start.Start.{Start}
-use Rattle.ics_series.specs.Found.{moment_cmp, source_cmp, start_by, AreStartsSince, HasStart, IsStart}
-use Rattle.ics_series.specs.Merged.{put}
-use Rattle.ics_series.specs.Inner.MergedLaws.{rises-union}
-use Rattle.ics_series.specs.Rising.{Rises}
-use Rattle.ics_series.proofs.FirstLemmas.{moment_total, source-order, source_total}
-use Rattle.ics_series.proofs.ListingLemmas.{before-in, relisted}
+use Rattle.ics_listing.specs.declared.start.StartSource.{StartSource}
+use Rattle.ics_listing.specs.declared.start.Start.{Start}
+use Rattle.ics_listing.specs.StartOrder.{moment_cmp, source_cmp, HasStart}
+use Rattle.ics_series.specs.Found.{start_by, AreStartsSince, IsStart}
+use Rattle.ics_listing.specs.Merged.{put}
+use Rattle.ics_listing.specs.Inner.MergedLaws.{rises-union}
+use Rattle.ics_listing.specs.Rising.{Rises}
+use Rattle.ics_listing.proofs.FirstLemmas.{moment_total, source-order, source_total}
+use Rattle.ics_listing.proofs.ListingLemmas.{before-in, relisted}
 use Rattle.ics_series.proofs.RawLemmas.{giving}
-use Rattle.ics_series.proofs.UnionLemmas.{itself-put, union-in}
+use Rattle.ics_listing.proofs.UnionLemmas.{itself-put, union-in}
 
 -- The starts of an event have a list, which has of those at one instant the first.
 module _ (clocks : Clocks) (event : Event) (sound : IsEvent event) where

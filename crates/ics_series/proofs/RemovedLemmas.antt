@@ -18,32 +18,37 @@ use Rattle.ics_values.specs.declared.stamp.Stamp.{Stamp}
 use Rattle.ics_values.specs.declared.stamp.Stamp.TheVariants.{Date, Floating, Utc, Zoned}
 use Rattle.ics_series.specs.declared.rule_starts.RuleStarts.{RuleStarts}
 use Rattle.ics_series.specs.declared.series.Series.{Series}
-use Rattle.ics_series.specs.declared.start.Start.{Start}
-use Rattle.ics_series.specs.declared.window.Window.{Window}
-use Rattle.ics_series.specs.Clocks.{clock_at, clock_by, clock_of, instant, Clock, Clocks}
-use Rattle.ics_series.specs.Entry.{Entry}
+use Rattle.ics_listing.specs.declared.start.Start.{Start}
+use Rattle.ics_listing.specs.declared.window.Window.{Window}
+use Rattle.ics_series.specs.Clocks.{clock_at, clock_by, clock_of, instant}
+use Rattle.ics_listing.specs.FileClocks.{Clock, Clocks}
+use Rattle.ics_listing.specs.Entry.{Entry}
 use Rattle.ics_series.specs.Exclusions.{is_among, is_day_in, is_excluded}
 use Rattle.ics_series.specs.FileZones.{clocks_in}
-use Rattle.ics_series.specs.Found.{moment_cmp, start_at, IsStartIn}
-use Rattle.ics_series.specs.Listing.{IsIn}
-use Rattle.ics_series.specs.Meeting.{entry_from, is_met}
-use Rattle.ics_series.specs.Merged.{put, union, HasNoKey}
-use Rattle.ics_series.specs.Inner.MergedLaws.{back, before-filter, before-trans, rises-union}
-use Rattle.ics_series.specs.Rising.{IsBefore, Rises}
+use Rattle.ics_listing.specs.StartOrder.{moment_cmp}
+use Rattle.ics_series.specs.Found.{start_at, IsStartIn}
+use Rattle.ics_listing.specs.Listing.{IsIn}
+use Rattle.ics_series.specs.Meeting.{entry_from}
+use Rattle.ics_listing.specs.WindowMeeting.{is_met}
+use Rattle.ics_listing.specs.Merged.{put, union, HasNoKey}
+use Rattle.ics_listing.specs.Inner.MergedLaws.{back, before-filter, before-trans, rises-union}
+use Rattle.ics_listing.specs.Rising.{IsBefore, Rises}
 use Rattle.ics_series.specs.RuleFeed.{held_in, starts_left, HasSkipped}
 use Rattle.ics_series.specs.RuleStarts.{found, found_in, gives, local_numbered, moment_numbered, number_in, to_come, with_put}
 use Rattle.ics_series.specs.SeriesFeed.{series_left, series_of}
-use Rattle.ics_series.specs.SeriesStarts.{first_of, given_of, is_wanted, left, listed_left, wanted_by}
+use Rattle.ics_series.specs.SeriesStarts.{first_of, given_of, is_wanted, left, wanted_by}
+use Rattle.ics_listing.specs.KnownStarts.{listed_left}
 use Rattle.ics_series.specs.SeriesStarts.{AreSkipped, AreStartsIn, HasOwnRule, HasRuled, HasSameRule, IsOwnRule}
-use Rattle.ics_series.specs.Starts.{recurrence_of, stamp_at, time_of}
-use Rattle.ics_series.proofs.BeginsLemmas.{put-before}
-use Rattle.ics_series.proofs.Cases.{by-cases, here-or-later}
-use Rattle.ics_series.proofs.FirstLemmas.{moment_total, tied-moment}
-use Rattle.ics_series.proofs.ListingLemmas.{before-in, filter-in, in-filter}
+use Rattle.ics_series.specs.Starts.{recurrence_of}
+use Rattle.ics_listing.specs.StartTimes.{stamp_at, time_of}
+use Rattle.ics_listing.proofs.BeginsLemmas.{put-before}
+use Rattle.ics_listing.proofs.Cases.{by-cases, here-or-later}
+use Rattle.ics_listing.proofs.FirstLemmas.{moment_total, tied-moment}
+use Rattle.ics_listing.proofs.ListingLemmas.{before-in, filter-in, in-filter}
 use Rattle.ics_series.proofs.RuleDayLemmas.{found-first, found-is, given-parts, in-rules, rises-found, seconds-numbered}
 use Rattle.ics_series.proofs.SeriesLemmas.{in-moment, in-picked, moment-in, rises-listed}
 use Rattle.ics_series.proofs.StartSourceLemmas.{kept-time, number-numbered}
-use Rattle.ics_series.proofs.UnionLemmas.{no_key-put, no_key-union, union-in}
+use Rattle.ics_listing.proofs.UnionLemmas.{no_key-put, no_key-union, union-in}
 
 -- by what a test answers
 by-test : {P : Type 0} (b : Bool) → (b ≡ true → P) → (b ≡ false → P) → P

@@ -17,24 +17,25 @@ use Rattle.ics_event.specs.declared.event.Event.{Event}
 use Rattle.ics_zone.proofs.Cases.{int_lt_true}
 use Rattle.ics_event.specs.Event.{stamp_seconds}
 use Rattle.ics_fields.specs.Locals.{local_seconds, midnight, whole_days}
-use Rattle.ics_series.specs.declared.start.Start.{Start}
-use Rattle.ics_series.specs.declared.window.Window.{Window}
+use Rattle.ics_listing.specs.declared.start.Start.{Start}
+use Rattle.ics_listing.specs.declared.window.Window.{Window}
 use Rattle.ics_series.specs.declared.zones.FileZones.{FileZones}
-use Rattle.ics_series.specs.Found.{moment_cmp, start_at}
-use Rattle.ics_series.specs.Listing.{IsIn}
-use Rattle.ics_series.specs.Clocks.{Clocks}
-use Rattle.ics_series.specs.Merged.{put, union}
-use Rattle.ics_series.specs.Inner.MergedLaws.{rises-put, rises-union}
-use Rattle.ics_series.specs.Rising.{Rises}
+use Rattle.ics_listing.specs.StartOrder.{moment_cmp}
+use Rattle.ics_series.specs.Found.{start_at}
+use Rattle.ics_listing.specs.Listing.{IsIn}
+use Rattle.ics_listing.specs.FileClocks.{Clocks}
+use Rattle.ics_listing.specs.Merged.{put, union}
+use Rattle.ics_listing.specs.Inner.MergedLaws.{rises-put, rises-union}
+use Rattle.ics_listing.specs.Rising.{Rises}
 use Rattle.ics_series.specs.RuleStarts.{found, found_in, gives, lets_until, local_numbered, midnight_number, moment_numbered, to_come}
 use Rattle.ics_series.specs.RuleStarts.{with_held, with_put}
-use Rattle.ics_series.specs.Starts.{stamp_at, time_at}
+use Rattle.ics_listing.specs.StartTimes.{stamp_at, time_at}
 use Rattle.ics_series.specs.FileZones.{clocks_in}
-use Rattle.ics_series.proofs.FirstLemmas.{moment_total}
-use Rattle.ics_series.proofs.StartSourceLemmas.{written-at}
+use Rattle.ics_listing.proofs.FirstLemmas.{moment_total}
+use Rattle.ics_listing.proofs.StartOrderLemmas.{written-at}
 use Rattle.ics_series.proofs.InstantLemmas.{instant-near}
-use Rattle.ics_series.proofs.Cases.{here-or-later}
-use Rattle.ics_series.proofs.UnionLemmas.{put-in, union_assoc}
+use Rattle.ics_listing.proofs.Cases.{here-or-later}
+use Rattle.ics_listing.proofs.UnionLemmas.{put-in, union_assoc}
 
 -- what is so of a list and of the list with a start put in is so whatever the test
 pub put-both : (b : Bool) (s : Start) (xs : List Start) (P : List Start → Type 0) → (b ≡ true → P (put moment_cmp s xs)) → (b ≡ false → P xs) →

@@ -16,32 +16,34 @@ use Rattle.ics_rule.specs.Recurrence.{Recurrence}
 use Rattle.ics_rule.proofs.KeptLemmas.{and_true}
 use Rattle.ics_event.specs.declared.event.Event.{Event}
 use Rattle.ics_series.specs.declared.rule_starts.RuleStarts.{RuleStarts}
-use Rattle.ics_series.specs.declared.start.Start.{Start}
-use Rattle.ics_series.specs.declared.window.Window.{Window}
+use Rattle.ics_listing.specs.declared.start.Start.{Start}
+use Rattle.ics_listing.specs.declared.window.Window.{Window}
 use Rattle.ics_series.specs.declared.zones.FileZones.{FileZones}
-use Rattle.ics_series.specs.Found.{moment_cmp, start_at}
+use Rattle.ics_listing.specs.StartOrder.{moment_cmp}
+use Rattle.ics_series.specs.Found.{start_at}
 use Rattle.ics_series.specs.HeldMost.{most_in_days}
-use Rattle.ics_series.specs.Listing.{IsIn}
-use Rattle.ics_series.specs.Merged.{cut}
-use Rattle.ics_series.specs.Inner.MergedLaws.{rises-union}
-use Rattle.ics_series.specs.Rising.{Rises}
+use Rattle.ics_listing.specs.Listing.{IsIn}
+use Rattle.ics_listing.specs.Merged.{cut}
+use Rattle.ics_listing.specs.Inner.MergedLaws.{rises-union}
+use Rattle.ics_listing.specs.Rising.{Rises}
 use Rattle.ics_series.specs.RuleFeed.{held_in, is_unsettled, settled_in, starts_left}
 use Rattle.ics_series.specs.RuleStarts.{ends_at, found, gives, is_behind, is_ready, midnight_number, moment_numbered, steps_left, to_come, with_held, AreHeld}
 use Rattle.ics_series.specs.RuleStarts.{IsHeld, IsReadTo}
-use Rattle.ics_series.specs.Starts.{local_of, time_at}
+use Rattle.ics_listing.specs.StartTimes.{local_of, time_at}
 use Rattle.ics_zone.specs.Observances.{is_until}
 use Rattle.ics_series.specs.FileZones.{clocks_in, IsTimeOf}
-use Rattle.ics_series.proofs.StartSourceLemmas.{calendar-day, kept-time, number-seconds, numbered-number, own-day}
-use Rattle.ics_series.proofs.NearDayLemmas.{day-under}
+use Rattle.ics_listing.proofs.StartOrderLemmas.{calendar-day, number-seconds, own-day}
+use Rattle.ics_series.proofs.StartSourceLemmas.{kept-time, numbered-number}
+use Rattle.ics_listing.proofs.NearLemmas.{day-under}
 use Rattle.ics_series.proofs.RawLemmas.{held-in-days}
 use Rattle.ics_series.proofs.RuleDayLemmas.{come-none, come-one, early-numbered, found-is, given-parts, late-numbered, less-start, number-day, rises-found}
 use Rattle.ics_series.proofs.SettledLemmas.{late-settled, off-numbered, off-range}
-use Rattle.ics_series.proofs.ListingLemmas.{before-in}
-use Rattle.ics_series.proofs.UnionLemmas.{union-in}
-use Rattle.ics_series.proofs.BeginsLemmas.{before-all, put-before, before-union}
-use Rattle.ics_series.proofs.FirstLemmas.{int-less, moment_total}
+use Rattle.ics_listing.proofs.ListingLemmas.{before-in}
+use Rattle.ics_listing.proofs.UnionLemmas.{union-in}
+use Rattle.ics_listing.proofs.BeginsLemmas.{before-all, put-before, before-union}
+use Rattle.ics_listing.proofs.FirstLemmas.{int-less, moment_total}
 use Rattle.ics_zone.proofs.Cases.{int_le_false, int_le_true, int_lt_true, less_or_not_z}
-use Rattle.ics_series.proofs.Cases.{not-true, by-cases}
+use Rattle.ics_listing.proofs.Cases.{not-true, by-cases}
 use Rattle.ics_rule.specs.PeriodNumbers.{rules_end}
 
 -- a number that fits in an i32 is read back

@@ -9,41 +9,47 @@ use Rattle.ics_rule.specs.Cursors.{place_of}
 use Rattle.ics_fields.specs.Locals.{midnight, whole_days}
 use Rattle.ics_event.specs.declared.event.Event.{Event}
 use Rattle.ics_event.specs.Event.{Rdate}
-use Rattle.ics_series.specs.declared.listed_starts.ListedStarts.{ListedStarts}
+use Rattle.ics_listing.specs.declared.listed_starts.ListedStarts.{ListedStarts}
 use Rattle.ics_series.specs.declared.rule_starts.RuleStarts.{RuleStarts}
 use Rattle.ics_series.specs.declared.series.Series.{Series}
-use Rattle.ics_series.specs.declared.start.StartSource.{StartSource}
-use Rattle.ics_series.specs.declared.start.Start.{Start}
-use Rattle.ics_series.specs.declared.window.Window.{Window}
+use Rattle.ics_listing.specs.declared.start.StartSource.{StartSource}
+use Rattle.ics_listing.specs.declared.start.Start.{Start}
+use Rattle.ics_listing.specs.declared.window.Window.{Window}
 use Rattle.ics_series.specs.declared.zones.FileZones.{FileZones}
-use Rattle.ics_series.specs.Clocks.{Clocks, instant}
-use Rattle.ics_series.specs.Entry.{Entry, entry_cmp}
+use Rattle.ics_listing.specs.FileClocks.{Clocks}
+use Rattle.ics_series.specs.Clocks.{instant}
+use Rattle.ics_listing.specs.Entry.{Entry, entry_cmp}
 use Rattle.ics_series.specs.Exclusions.{is_excluded}
-use Rattle.ics_series.specs.Found.{moment_cmp, AreStartsSince, IsStart, HasStart, IsSought}
-use Rattle.ics_series.specs.Listing.{IsIn, IsListing}
-use Rattle.ics_series.specs.Meeting.{entry_from, is_met}
-use Rattle.ics_series.specs.Merged.{cut, union, put}
-use Rattle.ics_series.specs.Rising.{IsBefore, Rises}
+use Rattle.ics_listing.specs.StartOrder.{moment_cmp, HasStart}
+use Rattle.ics_series.specs.Found.{AreStartsSince, IsStart, IsSought}
+use Rattle.ics_listing.specs.Listing.{IsIn, IsListing}
+use Rattle.ics_series.specs.Meeting.{entry_from}
+use Rattle.ics_listing.specs.WindowMeeting.{is_met}
+use Rattle.ics_listing.specs.Merged.{cut, union, put}
+use Rattle.ics_listing.specs.Rising.{IsBefore, Rises}
 use Rattle.ics_series.specs.RuleFeed.{held_in, starts_left}
-use Rattle.ics_series.specs.SeriesStarts.{first_asked, first_of, given_of, has_moment, is_wanted, listed_left, rule_asked, rule_left, wanted_by, HasOwnRule}
+use Rattle.ics_series.specs.SeriesStarts.{first_asked, first_of, given_of, has_moment, is_wanted, rule_asked, rule_left, wanted_by, HasOwnRule}
+use Rattle.ics_listing.specs.KnownStarts.{listed_left}
 use Rattle.ics_series.specs.SeriesStarts.{HasRuled, HasSameRule, IsAskedNear, IsSeriesMet, IsFirstOf}
-use Rattle.ics_series.specs.Starts.{GivesStart, time_of, IsNotAfter}
+use Rattle.ics_series.specs.Starts.{GivesStart}
+use Rattle.ics_listing.specs.StartTimes.{time_of, IsNotAfter}
 use Rattle.ics_series.specs.FileZones.{clocks_in}
-use Rattle.ics_series.proofs.Cases.{equal-true, not-true, true-equal}
-use Rattle.ics_series.proofs.FirstLemmas.{int-less, moment_total, tied-moment, same-moment}
-use Rattle.ics_series.proofs.StartSourceLemmas.{same-given, same-source}
-use Rattle.ics_series.proofs.ListingLemmas.{before-in, rises-end, any-in, in-any, picked as picked-from, listing-picked as picked-listing, KeepsOrder}
-use Rattle.ics_series.proofs.ListingLemmas.{one-of-tied}
+use Rattle.ics_listing.proofs.Cases.{equal-true, not-true, true-equal}
+use Rattle.ics_listing.proofs.FirstLemmas.{int-less, moment_total, tied-moment, same-moment}
+use Rattle.ics_series.proofs.StartSourceLemmas.{same-given}
+use Rattle.ics_listing.proofs.StartOrderLemmas.{same-source}
+use Rattle.ics_listing.proofs.ListingLemmas.{before-in, rises-end, any-in, in-any, picked as picked-from, listing-picked as picked-listing, KeepsOrder}
+use Rattle.ics_listing.proofs.ListingLemmas.{one-of-tied}
 use Rattle.ics_series.proofs.NearDayLemmas.{is_met-meets, meets-is_met}
 use Rattle.ics_series.proofs.RuleDayLemmas.{rises-to_come, less-start}
 use Rattle.ics_series.proofs.VersionLemmas.{entry_start_cmp, same-entry}
 use Rattle.ics_series.proofs.RuleStepLemmas.{left-near}
 use Rattle.std.proofs.lemmas.Option.{cond_some}
 use Rattle.ics_series.specs.Meets.{Meets}
-use Rattle.ics_series.proofs.BeginsLemmas.{member-cut, begins-first, begins-second, not-after-front}
+use Rattle.ics_listing.proofs.BeginsLemmas.{member-cut, begins-first, begins-second, not-after-front}
 use Rattle.ics_zone.proofs.Cases.{int_le_true, int_lt_true}
-use Rattle.ics_series.specs.Inner.MergedLaws.{before-trans}
-use Rattle.ics_series.proofs.UnionLemmas.{in-union, itself-put, member-put}
+use Rattle.ics_listing.specs.Inner.MergedLaws.{before-trans}
+use Rattle.ics_listing.proofs.UnionLemmas.{in-union, itself-put, member-put}
 
 -- The occurrences of one event that meet a window.
 -- those of the occurrences with these starts that pass a test

@@ -13,7 +13,7 @@ use Rattle.ics_series.specs.Clocks.{clock_by, clock_of, IsBounded}
 use Rattle.ics_series.specs.Leeway.{seconds_off}
 use Rattle.ics_series.specs.FileZones.{clocks_in}
 use Rattle.ics_series.specs.RuleStarts.{local_numbered, midnight_number, moment_numbered, settled_by}
-use Rattle.ics_series.specs.Starts.{stamp_at}
+use Rattle.ics_listing.specs.StartTimes.{stamp_at}
 use Rattle.ics_series.proofs.RuleDayLemmas.{seconds-numbered}
 
 -- Where the clock of DTSTART stays between two offsets.

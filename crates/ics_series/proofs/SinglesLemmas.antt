@@ -9,43 +9,45 @@ use Rattle.std.proofs.lemmas.Int.{ints}
 use Rattle.std.proofs.lemmas.List.Sorted.{IsPermutation-map}
 use Rattle.std.proofs.lemmas.Bool.{and_parts, cond_both, cases_Bool}
 use Rattle.std.proofs.lemmas.Option.{cond_some}
-use Rattle.ics_event.specs.Event.{FileSaid}
+use Rattle.ics_file.specs.File.{FileSaid}
 use Rattle.ics_event.specs.declared.event.Event.{Event}
 use Rattle.ics_event.specs.Event.{Rdate}
 use Rattle.ics_values.specs.declared.time.Rdate.TheVariants.{At}
 use Rattle.ics_event.specs.Event.{Time}
 use Rattle.ics_fields.specs.Locals.{local_seconds}
 use Rattle.ics_series.specs.declared.single.Single.{Single}
-use Rattle.ics_series.specs.declared.start.StartSource.{StartSource}
-use Rattle.ics_series.specs.declared.start.StartSource.TheVariants.{Kept, Listed}
+use Rattle.ics_listing.specs.declared.start.StartSource.{StartSource}
+use Rattle.ics_listing.specs.declared.start.StartSource.TheVariants.{Kept, Listed}
 use Rattle.ics_series.specs.declared.version.Version.{Version}
-use Rattle.ics_series.specs.declared.window.Window.{Window}
+use Rattle.ics_listing.specs.declared.window.Window.{Window}
 use Rattle.ics_series.specs.Chosen.{overridden, subject_of, IsChosen}
-use Rattle.ics_series.specs.Clocks.{Clock, Clocks, instant}
-use Rattle.ics_series.specs.Entry.{Entry, Rank, entry_cmp}
-use Rattle.ics_series.specs.Inner.EntryLaws.{entry_total}
+use Rattle.ics_listing.specs.FileClocks.{Clock, Clocks}
+use Rattle.ics_series.specs.Clocks.{instant}
+use Rattle.ics_listing.specs.Entry.{Entry, Rank, entry_cmp}
+use Rattle.ics_listing.specs.Inner.EntryLaws.{entry_total}
 use Rattle.ics_series.specs.Exclusions.{excludes}
 use Rattle.ics_series.specs.Finish.{finish}
-use Rattle.ics_series.specs.Listing.{IsListing, IsIn}
-use Rattle.ics_series.specs.Meeting.{is_met, is_under_way}
+use Rattle.ics_listing.specs.Listing.{IsListing, IsIn}
+use Rattle.ics_listing.specs.WindowMeeting.{is_met, is_under_way}
 use Rattle.ics_series.specs.Overridden.{is_kept}
-use Rattle.ics_series.specs.After.{is_after, after_key}
+use Rattle.ics_listing.specs.After.{is_after, after_key}
 use Rattle.ics_series.specs.Occurs.{IsInstance}
 use Rattle.ics_series.specs.PlacedEvents.{Placed, clocks_at}
 use Rattle.ics_series.specs.Singles.{entry_first, is_single, is_to_come, single_at, single_entry, single_of, IsSingleToCome, begun_first}
-use Rattle.ics_series.specs.Starts.{local_of, recurrence_by, GivesStart, IsNotAfter}
+use Rattle.ics_listing.specs.StartTimes.{local_of, IsNotAfter}
+use Rattle.ics_series.specs.Starts.{recurrence_by, GivesStart}
 use Rattle.ics_series.specs.Versions.{by_subject, is_named, is_override, label_of, seen, subject_cmp, AreChosen, Label}
 use Rattle.ics_series.specs.Spots.{event_at}
 use Rattle.ics_series.proofs.VersionLemmas.{given-subject, placed-event, entry_start_cmp, given_cmp, subject_from, IsGiven, IsGivenBy, map-in, same-entry}
 use Rattle.ics_series.proofs.VersionLemmas.{second-equal, subject_total}
 use Rattle.ics_series.proofs.NearDayLemmas.{is_met-meets, meets-is_met}
 use Rattle.ics_series.proofs.OverrideLemmas.{named-overrides}
-use Rattle.ics_series.proofs.ListingLemmas.{filter_map-map, listing-filter, listing-picked, KeepsOrder, listing-sorted, map-climbs, Climbs, all-as}
-use Rattle.ics_series.proofs.UnionLemmas.{from-one, listing-ordered, merged-is, one-from, IsInOne}
+use Rattle.ics_listing.proofs.ListingLemmas.{filter_map-map, listing-filter, listing-picked, KeepsOrder, listing-sorted, map-climbs, Climbs, all-as}
+use Rattle.ics_listing.proofs.UnionLemmas.{from-one, listing-ordered, merged-is, one-from, IsInOne}
 use Rattle.ics_series.proofs.RawLemmas.{one-start}
 use Rattle.ics_series.proofs.ToComeLemmas.{after-come, come-listed, listed-given, to-come}
 use Rattle.ics_series.proofs.ZoneLemmas.{none-of, rule-none}
-use Rattle.ics_series.proofs.StartSourceLemmas.{own-time}
+use Rattle.ics_listing.proofs.StartOrderLemmas.{own-time}
 use Rattle.std.specs.Cmp.{IsTotalOrder}
 use Rattle.std.specs.Cmp.Lexicographic.{slice_cmp}
 use Rattle.std.proofs.lemmas.Cmp.{int_cmp_total, on_total, then_total, tied_itself}
@@ -53,11 +55,11 @@ use Rattle.std.proofs.lemmas.Map.Lookups.{exact_bytes, exact_signed}
 use Rattle.ics_series.specs.Meets.{IsToCome, IsListed}
 use Rattle.ics_series.proofs.OccursLemmas.{one-recurrence}
 use Rattle.ics_series.specs.Inner.Masters.{AreLists, HasLists, IsOneOf, Recurs}
-use Rattle.ics_series.specs.Merged.{merged, IsFromFirst}
-use Rattle.ics_series.specs.Rising.{Rises}
+use Rattle.ics_listing.specs.Merged.{merged, IsFromFirst}
+use Rattle.ics_listing.specs.Rising.{Rises}
 use Rattle.ics_series.proofs.AfterLemmas.{listing-after_key}
 use Rattle.ics_series.proofs.RecurringLemmas.{recurring-master, version-come}
-use Rattle.ics_series.specs.WindowBounds.{occurrence_first}
+use Rattle.ics_listing.specs.WindowBounds.{occurrence_first}
 use Rattle.ics_series.proofs.InstantLemmas.{late}
 
 -- none of those that start once begins before the last two days of the year 0000

@@ -6,20 +6,22 @@ use Rattle.std.proofs.lemmas.Int.{int_max_is, int_min_is, ints}
 use Rattle.ics_event.specs.declared.event.Event.{Event}
 use Rattle.ics_event.specs.Event.{Rdate}
 use Rattle.ics_values.specs.declared.time.Rdate.TheVariants.{At, Span}
-use Rattle.ics_series.specs.declared.start.StartSource.{StartSource}
-use Rattle.ics_series.specs.declared.start.StartSource.TheVariants.{Kept, Listed}
-use Rattle.ics_series.specs.declared.start.Start.{Start}
-use Rattle.ics_series.specs.declared.window.Window.{Window}
+use Rattle.ics_listing.specs.declared.start.StartSource.{StartSource}
+use Rattle.ics_listing.specs.declared.start.StartSource.TheVariants.{Kept, Listed}
+use Rattle.ics_listing.specs.declared.start.Start.{Start}
+use Rattle.ics_listing.specs.declared.window.Window.{Window}
 use Rattle.ics_series.specs.declared.zones.FileZones.{FileZones}
-use Rattle.ics_series.specs.Clocks.{Clocks, instant}
+use Rattle.ics_listing.specs.FileClocks.{Clocks}
+use Rattle.ics_series.specs.Clocks.{instant}
 use Rattle.ics_event.specs.Event.{stamp_seconds}
 use Rattle.ics_series.specs.Finish.{end_by, seconds_by, seconds_lasting}
 use Rattle.ics_series.specs.Found.{earlier, earliest, earliest_from, first_met, is_span_met, listed_from, start_at, start_by, IsSought, with_front}
 use Rattle.ics_series.specs.Leeway.{late_by, seconds_late}
-use Rattle.ics_series.specs.Listing.{IsIn}
+use Rattle.ics_listing.specs.Listing.{IsIn}
 use Rattle.ics_series.specs.Meeting.{entry_from}
 use Rattle.ics_series.specs.Meets.{Meets}
-use Rattle.ics_series.specs.Starts.{given_by, local_of, recurrence_by, stamp_at, time_at, time_of, GivesStart}
+use Rattle.ics_series.specs.Starts.{given_by, recurrence_by, GivesStart}
+use Rattle.ics_listing.specs.StartTimes.{local_of, stamp_at, time_at, time_of}
 use Rattle.ics_series.specs.FileZones.{clocks_in, is_past}
 use Rattle.ics_series.proofs.InstantLemmas.{end-bound, instant-near, meets-late, seconds-least}
 use Rattle.ics_series.proofs.NearDayLemmas.{less-le, meets-is_met}
@@ -30,7 +32,7 @@ use Rattle.ics_values.specs.declared.time.Length.TheVariants.{Lasting, Open, Unt
 use Rattle.ics_values.specs.declared.stamp.Stamp.{Stamp}
 use Rattle.ics_values.specs.declared.stamp.Stamp.TheVariants.{Date, Floating, Utc, Zoned}
 use Rattle.ics_event.specs.Event.{Time}
-use Rattle.ics_series.proofs.Cases.{some-same}
+use Rattle.ics_listing.proofs.Cases.{some-same}
 
 -- a start of the list is by one of the RDATEs
 pub record IsListed (clocks : Clocks) (first : Time) (place : ℕ) (rdates : List Rdate) (s : Start) : Type 0 where

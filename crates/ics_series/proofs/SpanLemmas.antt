@@ -9,7 +9,7 @@ use Rattle.std.proofs.lemmas.Bool.{cases_Bool, cond_both}
 use Rattle.std.proofs.lemmas.Int.{int_max_is, int_min_is, ints}
 use Rattle.std.proofs.lemmas.List.{length-map}
 use Rattle.std.proofs.lemmas.Option.{slice_get-get_or, slice_get-map}
-use Rattle.ics_event.specs.Event.{FileSaid}
+use Rattle.ics_file.specs.File.{FileSaid}
 use Rattle.ics_event.specs.declared.event.Event.{Event}
 use Rattle.ics_fields.specs.Locals.{day_of_local, midnight}
 use Rattle.ics_zone.proofs.Cases.{int_le_false, less_or_not_z, true_int_le, true_int_lt}
@@ -17,37 +17,39 @@ use Rattle.ics_zone.specs.Seconds.{IsNear}
 use Rattle.ics_series.specs.declared.series.Series.{Series}
 use Rattle.ics_series.specs.declared.span.Span.{Span}
 use Rattle.ics_series.specs.declared.version.Version.{Version}
-use Rattle.ics_series.specs.declared.window.Window.{Window}
+use Rattle.ics_listing.specs.declared.window.Window.{Window}
 use Rattle.ics_series.specs.Chosen.{overridden, subject_of, IsChosen}
-use Rattle.ics_series.specs.Clocks.{Clock, Clocks, instant}
-use Rattle.ics_series.specs.Entry.{entry_cmp, Entry, Rank}
+use Rattle.ics_listing.specs.FileClocks.{Clock, Clocks}
+use Rattle.ics_series.specs.Clocks.{instant}
+use Rattle.ics_listing.specs.Entry.{entry_cmp, Entry, Rank}
 use Rattle.ics_series.specs.Laws.{HasVersion}
-use Rattle.ics_series.specs.Listing.{IsIn, IsListing}
+use Rattle.ics_listing.specs.Listing.{IsIn, IsListing}
 use Rattle.ics_series.specs.FileZones.{clocks_in}
 use Rattle.ics_series.specs.Inner.Masters.{IsOfVersion, IsSourceOf, Recurs}
-use Rattle.ics_series.specs.Meeting.{is_met}
+use Rattle.ics_listing.specs.WindowMeeting.{is_met}
 use Rattle.ics_series.specs.Meets.{IsListed, Meets}
-use Rattle.ics_series.specs.Merged.{merged}
-use Rattle.ics_series.specs.OnDays.{first_near, last_near, IsNearDay}
+use Rattle.ics_listing.specs.Merged.{merged}
+use Rattle.ics_listing.specs.DayKeys.{first_near, last_near, IsNearDay}
 use Rattle.ics_series.specs.PlacedEvents.{Placed, IsPlaced, clocks_at}
-use Rattle.ics_series.specs.Rising.{Rises}
+use Rattle.ics_listing.specs.Rising.{Rises}
 use Rattle.ics_series.specs.Singles.{begun_first, entry_first, is_single, single_at, single_of}
 use Rattle.ics_series.specs.Inner.SpanLaws.{AreThoseChosen}
 use Rattle.ics_series.specs.Inner.Spans.{always, can_meet, first_of, is_out, is_out_of, span_at, span_by, span_of, span_once, AreMovedOn, AreSpans}
 use Rattle.ics_series.specs.Inner.Spans.{AreSpansAfter, IsLater, IsMovedOn, IsRest, NoneMeets}
 use Rattle.ics_series.specs.SeriesFeed.{series_sources, source_of, IsSameSeries}
-use Rattle.ics_series.specs.Sources.{Recurring, Source}
-use Rattle.ics_series.specs.Sources.Source.{Of, Once}
+use Rattle.ics_listing.specs.FeedSources.{Recurring, Source}
+use Rattle.ics_listing.specs.FeedSources.Source.{Of, Once}
 use Rattle.ics_series.specs.Spots.{event_at}
 use Rattle.ics_series.specs.Versions.{by_subject, label_of, placed_in, seen, AreChosen, Label}
 use Rattle.ics_series.proofs.AheadLemmas.{near-under, shown-first, shown-last, NoneBetween}
-use Rattle.ics_series.proofs.Cases.{not-true}
-use Rattle.ics_series.proofs.ListingLemmas.{contains-in, get-in, one-listing}
-use Rattle.ics_series.proofs.NearDayLemmas.{day-under, day-within, is_met-meets, meets-is_met}
+use Rattle.ics_listing.proofs.Cases.{not-true}
+use Rattle.ics_listing.proofs.ListingLemmas.{contains-in, get-in, one-listing}
+use Rattle.ics_listing.proofs.NearLemmas.{day-under, day-within}
+use Rattle.ics_series.proofs.NearDayLemmas.{is_met-meets, meets-is_met}
 use Rattle.ics_series.proofs.RecurringLemmas.{recurring-master}
 use Rattle.ics_series.proofs.SinglesLemmas.{given-first}
 use Rattle.ics_series.proofs.ToComeLemmas.{listed-given}
-use Rattle.ics_series.proofs.UnionLemmas.{merged-listing, IsInOne}
+use Rattle.ics_listing.proofs.UnionLemmas.{merged-listing, IsInOne}
 use Rattle.ics_series.proofs.VersionLemmas.{exact-subject, group-total, in-placed, map-in, one-chosen, one-version, placed-event, placed-in}
 
 -- The events that count have a list: of each event of the folder its version that counts.

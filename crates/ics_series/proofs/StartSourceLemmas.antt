@@ -1,14 +1,12 @@
 -- What gives starts: the values by which it does lie in the years of stamps.
-use Rattle.std.proofs.Common.{◌≡◌, ℕ, ◌<◌, ◌≤◌, ℤ, pos, ◌+ℤ◌, ◌<ℤ◌, ◌≤ℤ◌, List, All, true, ◌⊎◌, ⊎_elim, Option, Some, is_some, refl, sym, ◌∙◌, ap, subst}
-use Rattle.std.proofs.Common.{arith, slice_get, Bool, ◌&&◌, None, inl, inr, w64, to_z, of_z, ◌==◌, int_lt, IfSome, SFits, int_eq}
-use Rattle.std.proofs.Props.{props}
+use Rattle.std.proofs.Common.{◌≡◌, ℕ, ◌<◌, ◌≤◌, ℤ, ◌≤ℤ◌, All, true, ◌⊎◌, ⊎_elim, Option, Some, refl, sym, ◌∙◌, ap, subst, arith, Bool, ◌&&◌, None, inl, inr}
+use Rattle.std.proofs.Common.{w64, to_z, of_z, ◌==◌, int_lt, IfSome, SFits}
 use Rattle.std.proofs.lemmas.Int.{ints, to_z-of_z}
-use Rattle.std.proofs.lemmas.Option.{get_or_from_slice_get, slice_get_within}
 use Rattle.std.proofs.lemmas.Bool.{cases_lt, eqb-true, eq-eqb, or_left, or_right}
 use Rattle.std.proofs.lemmas.Bool.Decides.{nat_tests}
 use mathlib.Core.HLevel.{is_prop→PathP}
-use Rattle.ics_fields.specs.Days.{IsDayNumber, day_index, IsStampDay}
-use Rattle.ics_fields.specs.Locals.{local_at, number, local_seconds}
+use Rattle.ics_fields.specs.Days.{IsDayNumber, IsStampDay}
+use Rattle.ics_fields.specs.Locals.{local_at, number}
 use Rattle.ics_values.specs.Stamps.{stamp_day}
 use Rattle.ics_fields.specs.declared.local.Local.{Local}
 use Rattle.ics_values.specs.declared.stamp.Stamp.{Stamp}
@@ -21,71 +19,24 @@ use Rattle.ics_event.specs.Event.{Rdate}
 use Rattle.ics_values.specs.declared.time.Rdate.TheVariants.{At, Span}
 use Rattle.ics_event.specs.Event.{Time}
 use Rattle.ics_event.specs.declared.event.Event.{Event}
-use Rattle.ics_event.specs.Event.{is_zoned, HasZonesBelow, IsRdate, IsTime, RdateBelow, TimeBelow, stamp_seconds}
-use Rattle.ics_series.specs.declared.start.StartSource.{StartSource}
-use Rattle.ics_series.specs.declared.start.StartSource.TheVariants.{Kept, Listed}
-use Rattle.ics_series.specs.Clocks.{Clocks, day_of, instant}
+use Rattle.ics_event.specs.Event.{HasZonesBelow, IsRdate, IsTime, RdateBelow, TimeBelow}
+use Rattle.ics_listing.specs.declared.start.StartSource.{StartSource}
+use Rattle.ics_listing.specs.declared.start.StartSource.TheVariants.{Kept, Listed}
+use Rattle.ics_listing.specs.FileClocks.{Clocks}
+use Rattle.ics_series.specs.Clocks.{instant}
 use Rattle.ics_series.specs.Finish.{finish}
 use Rattle.ics_series.specs.Occurs.{IsInstance}
-use Rattle.ics_series.specs.Starts.{date_only, given_by, given_from, local_of, stamp_at, time_at, time_by, time_of, recurrence_by, recurrence_of, GivesStart}
-use Rattle.ics_series.specs.Starts.{IsNotAfter, IsRuleStart}
-use Rattle.ics_series.proofs.Cases.{mapped-some, some-same}
+use Rattle.ics_series.specs.Starts.{given_by, given_from, time_by, recurrence_by, recurrence_of, GivesStart, IsRuleStart}
+use Rattle.ics_listing.specs.StartTimes.{local_of, time_at, time_of}
+use Rattle.ics_listing.proofs.Cases.{mapped-some, some-same}
 use Rattle.ics_rule.proofs.KeptLemmas.{or_true}
-use Rattle.ics_series.specs.declared.start.Start.{Start}
-use Rattle.ics_series.specs.declared.window.Window.{Window}
+use Rattle.ics_listing.specs.declared.start.Start.{Start}
+use Rattle.ics_listing.specs.declared.window.Window.{Window}
 use Rattle.ics_series.specs.Found.{start_at}
 use Rattle.ics_zone.specs.Observances.{is_until}
 use Rattle.ics_series.specs.RuleStarts.{gives, lets_until, local_numbered, moment_numbered}
-
--- Locals.
-pub index-is : (d : ℤ) → IsDayNumber d → pos (day_index d) ≡ d +ℤ pos 719_528
-index-is d h = omega (arith, ints, h.0)
-
--- a local's number counts from the year 0000, its seconds from 1970
-pub number-seconds : (a : Local) → IsDayNumber a.day → pos (number a) ≡ local_seconds a +ℤ pos 62_167_219_200
-number-seconds a h = omega (arith, ints, index-is a.day h)
-
--- two locals with the same seconds are the same
-pub same-seconds : (a b : Local) → local_seconds a ≡ local_seconds b → a ≡ b
-same-seconds a b e =
-    let day : a.day ≡ b.day = omega (arith, ints, a.second_in, b.second_in) in
-    let second : a.second ≡ b.second = omega (arith, ints, a.second_in, b.second_in) in
-    λ i. record { day = day i; second = second i; second_in = is_prop→PathP (λ j. second j < 86_400) (λ j. hlevel props) a.second_in b.second_in i }
-
-pub same-number : (a b : Local) → IsDayNumber a.day → IsDayNumber b.day → number a ≡ number b → a ≡ b
-same-number a b h k e = same-seconds a b (omega (arith, ints, number-seconds a h, number-seconds b k))
-
--- Stamps of one kind.
-pub own-stamp : (s : Stamp) → stamp_at s (local_of s) ≡ s
-own-stamp (Date day) = refl
-own-stamp _ = refl
-
--- a stamp writes the local, or the midnight of its day
-pub written-at : (s : Stamp) (a : Local) → (stamp_seconds (stamp_at s a) ≤ℤ local_seconds a) × (local_seconds a <ℤ (stamp_seconds (stamp_at s a) +ℤ pos 86_400))
-written-at (Date day) a = (omega (arith, ints), omega (arith, ints, a.second_in))
-written-at _ a = (omega (arith, ints), omega (arith, ints))
-
--- a stamp's day is that of its local
-stamp_days : (s : Stamp) → (stamp_day s ≡ (local_of s).day) × (stamp_day s ≡ day_of s)
-stamp_days (Date day) = (refl, refl)
-stamp_days _ = (refl, refl)
-
--- Times.
-pub own-time : (time : Time) → time_at time (local_of time.stamp) ≡ time
-own-time time = ap (λ s. record { stamp = s; zone = time.zone }) (own-stamp time.stamp)
-
-stamp-time : (s : Stamp) (zone : Option ℕ) (a : Local) → is_some zone ≡ is_zoned s → IsStampDay a.day → IsTime (record { stamp = stamp_at s a; zone = zone })
-stamp-time (Date day) zone a z d = record { years = d; zone = z }
-stamp-time _ zone a z d = record { years = d; zone = z }
-
-pub time-at : (time : Time) (a : Local) → IsTime time → IsStampDay a.day → IsTime (time_at time a)
-time-at time a h d = stamp-time time.stamp time.zone a h.zone d
-
-pub own-day : (time : Time) → IsTime time → IsStampDay (local_of time.stamp).day
-own-day time h = subst IsStampDay (stamp_days time.stamp).0 h.years
-
-pub calendar-day : (d : ℤ) → IsStampDay d → IsDayNumber d
-calendar-day d h = (omega (arith, ints, h.0), omega (arith, ints, h.1))
+use Rattle.ics_listing.proofs.StartOrderLemmas.{number-seconds, same-number, own-time, time-at, own-day, calendar-day, same-source, rdate-time, date-time}
+use Rattle.ics_listing.proofs.StartOrderLemmas.{all-at}
 
 -- Kept locals.
 pub kept-late : (r : Recurrence) (n : ℕ) → is_kept r n ≡ true → number r.start ≤ n
@@ -116,13 +67,6 @@ kept-time event {rule = rule} a h e d k =
           (kept-early rule (number a) k),
     )
 
--- two of which none is after the other are the same
-pub same-source : (g k : StartSource) → IsNotAfter g k → IsNotAfter k g → g ≡ k
-same-source (Kept a) (Kept b) h l = ap Kept (same-seconds a b (omega (arith, ints, h, l)))
-same-source (Kept a) (Listed b) h l = absurd l
-same-source (Listed a) (Kept b) h l = absurd h
-same-source (Listed a) (Listed b) h l = ap Listed (omega (arith, h, l))
-
 -- it gives one value
 module _ (clocks : Clocks) (event : Event) where
   pub same-given : {g k : StartSource} (x y : Rdate) → g ≡ k → GivesStart clocks event g x → GivesStart clocks event k y → x ≡ y
@@ -137,21 +81,6 @@ one-instance {clocks = clocks} {event = event} h k =
     let below = h.earliest k.source k.given k.gives (sym k.starts) in
     let above = k.earliest h.source h.given h.gives (sym h.starts) in
     h.ends ∙ (ap (finish clocks event) (same-given clocks event h.given k.given (same-source h.source k.source below above) h.gives k.gives) ∙ sym k.ends)
-
--- Values that give starts.
-pub rdate-time : (r : Rdate) → IsRdate r → IsTime (time_of r)
-rdate-time (At time) h = h
-rdate-time (Span start lasts) h = h.0
-
-pub rdate-below : (zones : ℕ) (r : Rdate) → RdateBelow zones r → TimeBelow zones (time_of r)
-rdate-below zones (At time) h = h
-rdate-below zones (Span start lasts) h = h.0
-
-pub day-years : (time : Time) → IsTime time → IsStampDay (day_of time.stamp)
-day-years time h = subst IsStampDay (stamp_days time.stamp).1 h.years
-
-pub date-time : (time : Time) → IsTime time → IsTime (date_only time)
-date-time time h = record { years = day-years time h; zone = refl }
 
 time-by : (first time : Time) (s : Stamp) → IsTime first → IsTime time → s ≡ time.stamp → IsTime (time_by first time s)
 time-by first time (Date day) h t e = time-at first (local_at day (local_of first.stamp).second) h (subst (λ q. IsStampDay (stamp_day q)) (sym e) t.years)
@@ -170,10 +99,6 @@ given-zone : (zones : ℕ) (first : Time) (s : Stamp) (r : Rdate) → TimeBelow 
 given-zone zones first (Date day) r h v = tt
 given-zone zones first _ (At time) h v = time-below zones first time time.stamp h v
 given-zone zones first _ (Span start lasts) h v = v
-
--- what holds of all of a list holds at each of its places
-pub all-at : {A : Type 0} (P : A → Type 0) (xs : List A) (k : ℕ) (x : A) → All P xs → slice_get xs k ≡ Some x → P x
-all-at P xs k x h e = subst P (get_or_from_slice_get xs k x x e) (h k x (slice_get_within xs k x e))
 
 module _ (clocks : Clocks) (event : Event) where
   -- what gives a start of an event is a value such as RDATEs have
@@ -198,10 +123,6 @@ until-true (Some last) t h = grind (arith, ints)
 true-until : (o : Option ℤ) (t : ℤ) → is_until o t ≡ true → IfSome o (λ last. t ≤ℤ last)
 true-until None t h = tt
 true-until (Some last) t h = grind (arith, ints)
-
--- two locals are one exactly if their numbers are
-pub local-test : (a b : Local) → IsDayNumber a.day → IsDayNumber b.day → (int_eq a.day b.day && (a.second == b.second)) ≡ (number a == number b)
-local-test a b h k = grind (arith, ints, nat_tests, a.second_in, b.second_in, number-seconds a h, number-seconds b k)
 
 pub number-numbered : (n : ℕ) → number (local_numbered n) ≡ n
 number-numbered n = omega (arith, ints)

@@ -2,21 +2,22 @@
 use Rattle.std.proofs.Common.{◌≡◌, List, map, inl, inr, ⊎_elim, Option, Some, None, Bool, true, false, refl, sym, ◌∙◌, ap, is_some, not}
 use Rattle.std.proofs.Common.{option_map, is_lt, Ordering, Less}
 use Rattle.std.proofs.lemmas.Bool.{false_from_ne_true, not_from_false, not_from_true, or_right}
-use Rattle.ics_event.specs.Event.{FileSaid}
+use Rattle.ics_file.specs.File.{FileSaid}
 use Rattle.ics_event.specs.declared.event.Event.{Event}
 use Rattle.ics_event.specs.Event.{Time}
 use Rattle.ics_series.specs.declared.version.Version.{Version}
-use Rattle.ics_series.specs.declared.window.Window.{Window}
+use Rattle.ics_listing.specs.declared.window.Window.{Window}
 use Rattle.ics_series.specs.Chosen.{IsOverridden}
-use Rattle.ics_series.specs.Clocks.{Clock, instant}
-use Rattle.ics_series.specs.Entry.{Entry, Rank, rank_cmp, rank_of}
+use Rattle.ics_listing.specs.FileClocks.{Clock}
+use Rattle.ics_series.specs.Clocks.{instant}
+use Rattle.ics_listing.specs.Entry.{Entry, Rank, rank_cmp, rank_of}
 use Rattle.ics_series.specs.Meets.{Meets, IsListed, IsToCome}
 use Rattle.ics_series.specs.Overridden.{is_kept}
-use Rattle.ics_series.specs.After.{is_after}
+use Rattle.ics_listing.specs.After.{is_after}
 use Rattle.ics_series.specs.Occurs.{Occurs, IsOfMaster, IsOfOverride}
 use Rattle.ics_series.specs.PlacedEvents.{clocks_at}
 use Rattle.ics_series.specs.Versions.{is_named, seen, AreChosen}
-use Rattle.ics_series.proofs.Cases.{mapped-some}
+use Rattle.ics_listing.proofs.Cases.{mapped-some}
 use Rattle.ics_series.proofs.OverrideLemmas.{named-overridden, overridden-named}
 use Rattle.ics_series.proofs.VersionLemmas.{IsGiven, IsGivenBy}
 

@@ -8,8 +8,9 @@ use Rattle.ics_zone.specs.Observances.{rule_from}
 use Rattle.ics_zone.proofs.UntilLemmas.{bounded, free, same-kept}
 use Rattle.ics_series.specs.Clocks.{instant}
 use Rattle.ics_series.specs.Laws.{unbounded_by, StartsByUntil}
-use Rattle.ics_series.specs.Starts.{local_of, recurrence_by, recurrence_of, time_at, time_of, IsRuleStart}
-use Rattle.ics_series.proofs.Cases.{some-same}
+use Rattle.ics_listing.specs.StartTimes.{local_of, time_at, time_of}
+use Rattle.ics_series.specs.Starts.{recurrence_by, recurrence_of, IsRuleStart}
+use Rattle.ics_listing.proofs.Cases.{some-same}
 
 pub starts-by_until : StartsByUntil
 starts-by_until clocks event parts last local given has is timed other =

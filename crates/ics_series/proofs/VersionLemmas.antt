@@ -12,26 +12,27 @@ use Rattle.std.proofs.lemmas.List.{get_or_default, map-append}
 use Rattle.std.proofs.lemmas.List.Elements.{Contains-get_or}
 use Rattle.std.proofs.lemmas.List.MinMax.{IsFirstBest-from_best_of, IsStrictWeakOrder-flip, ranks_by}
 use Rattle.std.proofs.lemmas.Option.{get_or_from_slice_get, slice_get-map, slice_get_within}
-use Rattle.ics_event.specs.Event.{FileSaid, said_by}
+use Rattle.ics_file.specs.File.{FileSaid, said_by}
 use Rattle.ics_event.specs.declared.event.Event.{Event}
-use Rattle.ics_event.specs.declared.events.FileEvents.{FileEvents}
+use Rattle.ics_file.specs.declared.events.FileEvents.{FileEvents}
 use Rattle.ics_zone.specs.ZoneSaid.{zone_said}
 use Rattle.ics_series.specs.Chosen.{subject_of, IsChosen, SubjectSeen, overridden, subject_by}
-use Rattle.ics_series.specs.Clocks.{Clock, Clocks, clocks_of}
-use Rattle.ics_series.specs.Listing.{IsIn, IsListing}
+use Rattle.ics_listing.specs.FileClocks.{Clock, Clocks}
+use Rattle.ics_series.specs.Clocks.{clocks_of}
+use Rattle.ics_listing.specs.Listing.{IsIn, IsListing}
 use Rattle.ics_series.specs.PlacedEvents.{Placed, IsPlaced, placed_cmp, clocks_at, zones_of}
 use Rattle.ics_series.specs.Versions.{by_subject, subject_cmp, version_cmp, lasts, is_followed, label_by, label_of, placed_from, placed_in, Label, seen}
 use Rattle.ics_series.specs.Versions.{label_cmp, is_same, AreChosen, spot_of}
-use Rattle.ics_series.proofs.ListingLemmas.{Climbs, up-to-in, climbs-map, map-climbs, followed, contains-in, in-contains, in-permutation, less-up-to}
-use Rattle.ics_series.proofs.ListingLemmas.{not-less-itself, relisted, filter-in, get-in, in-filter, in-append, in-append_left, in-append_right}
-use Rattle.ics_series.proofs.Cases.{eq-Equal, less-by, up-to-front, some-same, by-cases, option-cases}
-use Rattle.ics_series.proofs.BeginsLemmas.{before-all}
+use Rattle.ics_listing.proofs.ListingLemmas.{Climbs, up-to-in, climbs-map, map-climbs, followed, contains-in, in-contains, in-permutation, less-up-to}
+use Rattle.ics_listing.proofs.ListingLemmas.{not-less-itself, relisted, filter-in, get-in, in-filter, in-append, in-append_left, in-append_right}
+use Rattle.ics_listing.proofs.Cases.{eq-Equal, less-by, up-to-front, some-same, by-cases, option-cases}
+use Rattle.ics_listing.proofs.BeginsLemmas.{before-all}
 use Rattle.std.specs.List.Sorted.{IsPermutation}
 use Rattle.std.proofs.lemmas.List.Sorted.{IsPermutation-map, IsPermutation-sym}
 use Rattle.ics_series.specs.declared.version.Version.{Version}
 use Rattle.ics_series.specs.Laws.{HasVersion}
-use Rattle.ics_series.specs.Entry.{Entry}
-use Rattle.ics_series.specs.declared.window.Window.{Window}
+use Rattle.ics_listing.specs.Entry.{Entry}
+use Rattle.ics_listing.specs.declared.window.Window.{Window}
 use Rattle.ics_series.specs.Meets.{Meets}
 use Rattle.ics_series.specs.Occurs.{IsMoved, IsOf}
 use Rattle.ics_series.specs.Spots.{event_at}

@@ -10,37 +10,40 @@ use Rattle.ics_values.specs.declared.stamp.Stamp.TheVariants.{Utc, Zoned}
 use Rattle.ics_zone.specs.ZoneSaid.{zone_said}
 use Rattle.ics_zone.specs.declared.display.Display.{Display}
 use Rattle.ics_zone.specs.declared.zone.ZoneKind.{ZoneKind}
-use Rattle.ics_event.specs.Event.{said_by, stamp_seconds, FileSaid, IsEvent, IsTime}
-use Rattle.ics_event.specs.declared.events.FileEvents.{FileEvents}
+use Rattle.ics_file.specs.File.{said_by, FileSaid}
+use Rattle.ics_event.specs.Event.{stamp_seconds, IsEvent, IsTime}
+use Rattle.ics_file.specs.declared.events.FileEvents.{FileEvents}
 use Rattle.ics_event.specs.Event.{Time}
 use Rattle.ics_series.specs.declared.version.Version.{Version}
 use Rattle.ics_series.specs.Chosen.{IsChosen, IsMaster}
-use Rattle.ics_series.specs.Clocks.{clock_by, clocks_of, display_clock, instant, Clock, Clocks}
-use Rattle.ics_series.specs.Entry.{entry_cmp, rank_of, Entry}
-use Rattle.ics_series.specs.Listing.{IsIn, IsListing}
+use Rattle.ics_series.specs.Clocks.{clock_by, clocks_of, display_clock, instant}
+use Rattle.ics_listing.specs.FileClocks.{Clock, Clocks}
+use Rattle.ics_listing.specs.Entry.{entry_cmp, rank_of, Entry}
+use Rattle.ics_listing.specs.Listing.{IsIn, IsListing}
 use Rattle.ics_series.specs.Occurs.{Occurs}
 use Rattle.ics_series.specs.PlacedEvents.{clocks_at, zones_in, IsPlaced, Placed}
-use Rattle.ics_series.specs.Starts.{time_of}
-use Rattle.ics_series.specs.Tokens.{IsKey}
+use Rattle.ics_listing.specs.StartTimes.{time_of}
+use Rattle.ics_listing.specs.Tokens.{IsKey}
 use Rattle.ics_series.specs.Versions.{by_subject, label_of, seen, AreChosen, Label}
 use Rattle.ics_series.specs.Inner.Masters.{HasLists, IsOfVersion, Recurs}
 use Rattle.ics_series.specs.Meets.{IsListed}
-use Rattle.ics_series.specs.Merged.{merged}
+use Rattle.ics_listing.specs.Merged.{merged}
 use Rattle.ics_series.specs.Overridden.{is_kept}
 use Rattle.ics_series.specs.Singles.{is_single}
 use Rattle.ics_series.specs.Spots.{event_at}
-use Rattle.ics_series.specs.declared.window.Window.{Window}
+use Rattle.ics_listing.specs.declared.window.Window.{Window}
 use Rattle.ics_series.specs.declared.zones.FileZones.{FileZones}
 use Rattle.ics_series.specs.Inner.Whole.{AreRead, AreReadIn, IsReadEvent}
-use Rattle.ics_series.proofs.Cases.{below-or-last, mapped-some, some-same}
+use Rattle.ics_listing.proofs.Cases.{below-or-last, mapped-some, some-same}
 use Rattle.ics_series.proofs.InstantLemmas.{near-at, near-display, near-utc, written, IsNearClock}
-use Rattle.ics_series.proofs.ListingLemmas.{get-in, listing-filter}
+use Rattle.ics_listing.proofs.ListingLemmas.{get-in, listing-filter}
 use Rattle.ics_series.proofs.OverrideLemmas.{any_version}
 use Rattle.ics_series.proofs.RecurringLemmas.{not-single, own, own-event, whole-version, IsRead}
 use Rattle.ics_series.proofs.SinglesLemmas.{parts-listing, singles-whole}
 use Rattle.ics_series.proofs.SourceLemmas.{lists-none, versions-all, versions-more, versions-skip}
 use Rattle.ics_series.proofs.VersionLemmas.{in-map, map-in, placed-event}
-use Rattle.ics_series.proofs.StartSourceLemmas.{gives-value, rdate-time}
+use Rattle.ics_series.proofs.StartSourceLemmas.{gives-value}
+use Rattle.ics_listing.proofs.StartOrderLemmas.{rdate-time}
 
 -- the events of one file more
 pub read-step : (files : List FileEvents) (number : ℕ) (file : FileEvents) → slice_get files number ≡ Some file → AreReadIn file.events →

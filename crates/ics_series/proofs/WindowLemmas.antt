@@ -2,12 +2,12 @@
 use Rattle.std.proofs.Common.{◌≡◌, ℤ, pos, ◌+ℤ◌, true, false, ◌⊎◌, inl, inr, ⊎_elim, List, ◌++◌, refl, sym, ◌∙◌, arith, ◌↔◌, ◌≤ℤ◌, ◌<ℤ◌, Less}
 use Rattle.std.specs.Cmp.{int_cmp_is}
 use Rattle.std.proofs.lemmas.Int.{int_max_is, ints}
-use Rattle.ics_event.specs.Event.{FileSaid}
+use Rattle.ics_file.specs.File.{FileSaid}
 use Rattle.ics_zone.proofs.Cases.{less_or_not_z}
-use Rattle.ics_series.specs.declared.window.Window.{Window}
-use Rattle.ics_series.specs.Clocks.{Clock}
-use Rattle.ics_series.specs.Entry.{Entry, entry_cmp}
-use Rattle.ics_series.specs.Listing.{IsIn, IsListing}
+use Rattle.ics_listing.specs.declared.window.Window.{Window}
+use Rattle.ics_listing.specs.FileClocks.{Clock}
+use Rattle.ics_listing.specs.Entry.{Entry, entry_cmp}
+use Rattle.ics_listing.specs.Listing.{IsIn, IsListing}
 use Rattle.ics_series.specs.Meets.{IsListed, Meets}
 use Rattle.ics_series.specs.Occurs.{Occurs}
 use Rattle.ics_series.specs.WindowLaws.{IsJoined, IsWithin}

@@ -5,19 +5,22 @@ use Rattle.std.proofs.lemmas.Bool.{eqb-true}
 use Rattle.std.proofs.lemmas.List.{get_or-map, length-map}
 use Rattle.ics_fields.specs.RuleParts.{RuleParts}
 use Rattle.ics_values.specs.declared.stamp.Stamp.{Stamp}
-use Rattle.ics_event.specs.Event.{EndsBelow, HasZonesBelow, IsEvent, IsEventOf, IsLength}
+use Rattle.ics_event.specs.Event.{EndsBelow, HasZonesBelow, IsEvent, IsLength}
+use Rattle.ics_file.specs.File.{IsEventOf}
 use Rattle.ics_event.specs.declared.event.Event.{Event}
 use Rattle.ics_event.specs.Event.{Length}
 use Rattle.ics_values.specs.declared.time.Length.TheVariants.{Open, Until, Lasting}
 use Rattle.ics_event.specs.Event.{Rdate}
 use Rattle.ics_zone.specs.ZoneSaid.{zone_said}
 use Rattle.ics_zone.specs.declared.zone.ZoneKind.{ZoneKind}
-use Rattle.ics_series.specs.declared.start.StartSource.{StartSource}
+use Rattle.ics_listing.specs.declared.start.StartSource.{StartSource}
 use Rattle.ics_series.specs.declared.zones.FileZones.{FileZones}
 use Rattle.ics_series.specs.Clocks.{utc_clock, zone_clock}
-use Rattle.ics_series.specs.Starts.{time_of, GivesStart}
+use Rattle.ics_listing.specs.StartTimes.{time_of}
+use Rattle.ics_series.specs.Starts.{GivesStart}
 use Rattle.ics_series.specs.FileZones.{clocks_in, IsEndOf, IsOwnEvent, IsTimeOf}
-use Rattle.ics_series.proofs.StartSourceLemmas.{gives-below, gives-value, rdate-below, rdate-time}
+use Rattle.ics_series.proofs.StartSourceLemmas.{gives-below, gives-value}
+use Rattle.ics_listing.proofs.StartOrderLemmas.{rdate-below, rdate-time}
 use Rattle.ics_series.proofs.InstantLemmas.{ends-near}
 
 pub clock-there : (zones : List ZoneKind) (i : ℕ) (d : ZoneKind) → i < length zones →

@@ -1,18 +1,19 @@
 -- What is still to come of a listing under each day.
 use Rattle.std.specs.Prelude.{◌≡◌, ◌<ℤ◌, ◌&&◌, ◌∷◌, ◌++◌, ℤ, Bool, List, filter, map, Option, Some, None}
-use Rattle.ics_event.specs.Event.{said_by, FileSaid}
+use Rattle.ics_file.specs.File.{said_by, FileSaid}
 use Rattle.ics_series.specs.declared.agenda.Agenda.{Agenda}
 use Rattle.ics_series.specs.declared.days.Days.{Days}
-use Rattle.ics_series.specs.declared.occurrence.Occurrence.{Occurrence}
-use Rattle.ics_series.specs.declared.window.Window.{Window}
-use Rattle.ics_series.specs.Clocks.{Clock, display_clock}
+use Rattle.ics_listing.specs.declared.occurrence.Occurrence.{Occurrence}
+use Rattle.ics_listing.specs.declared.window.Window.{Window}
+use Rattle.ics_listing.specs.FileClocks.{Clock}
+use Rattle.ics_series.specs.Clocks.{display_clock}
 use Rattle.ics_series.specs.DaySteps.{scope_in, Scope}
-use Rattle.ics_series.specs.OnDays.{is_on, on_day, on_day_cmp, IsOnDay, OnDay}
-use Rattle.ics_series.specs.Entry.{Entry, entry_cmp, entry_of}
-use Rattle.ics_series.specs.Leads.{listed, past}
-use Rattle.ics_series.specs.Listing.{IsListing}
-use Rattle.ics_series.specs.Meeting.{is_met}
-use Rattle.ics_series.specs.Merged.{merged}
+use Rattle.ics_series.specs.OnDays.{is_on, IsOnDay}
+use Rattle.ics_listing.specs.DayKeys.{on_day, on_day_cmp, OnDay}
+use Rattle.ics_listing.specs.Entry.{Entry, entry_of}
+use Rattle.ics_listing.specs.Listing.{IsListing}
+use Rattle.ics_listing.specs.WindowMeeting.{is_met}
+use Rattle.ics_listing.specs.Merges.{merge_coming}
 use Rattle.ics_series.specs.AgendaParts.{part_coming}
 use Rattle.ics_series.specs.Overridden.{is_kept}
 use Rattle.ics_series.specs.Versions.{seen}
@@ -38,9 +39,7 @@ pub record IsAheadOf (files : List FileSaid) (display : Clock) (w : Window) (day
 
 -- what an agenda has to come
 abbrev pub agenda_coming : Agenda → List Entry
-agenda_coming agenda =
-    filter (is_kept (map seen agenda.overrides.items))
-    (merged entry_cmp (map (λ l. past agenda.merge.last (listed l.head (part_coming l.feed))) agenda.merge.leads.items))
+agenda_coming agenda = filter (is_kept (map seen agenda.overrides.items)) (merge_coming part_coming agenda.merge)
 
 -- what it is of
 abbrev pub scope_of : Days → Scope

@@ -9,11 +9,7 @@ use Rattle.ics_zone.specs.declared.bounds.Bounds.{Bounds}
 use Rattle.ics_zone.specs.ZoneSaid.{ZoneSaid, display_said, said_moment, said_offset}
 use Rattle.ics_zone.specs.declared.display.Display.{Display}
 use Rattle.ics_event.specs.Event.{stamp_seconds}
-
--- what a zone gives: the instant of each local, and the offset at each instant
-pub record Clock : Type 0 where
-  pub moment : ℤ → ℤ
-  pub offset : ℤ → ℤ
+use Rattle.ics_listing.specs.FileClocks.{Clock, Clocks}
 
 abbrev pub utc_clock : Clock
 utc_clock = record { moment = λ local. local; offset = λ t. pos 0 }
@@ -24,24 +20,12 @@ zone_clock zone = record { moment = said_moment zone; offset = said_offset zone 
 abbrev pub display_clock : Display → Clock
 display_clock display = zone_clock (display_said display)
 
--- the clocks by which the times of a file are read: that of the display zone, and those of the file's own zones
-pub record Clocks : Type 0 where
-  pub display : Clock
-  pub zones : List Clock
-
 abbrev pub clocks_of : Clock → List ZoneSaid → Clocks
 clocks_of display zones = record { display = display; zones = map zone_clock zones }
 
 -- what a clock shows at an instant
 abbrev pub local_at : Clock → ℤ → ℤ
 local_at clock t = t +ℤ clock.offset t
-
--- the day of a stamp
-abbrev pub day_of : Stamp → ℤ
-day_of (Date day) = day
-day_of (Floating local) = local.day
-day_of (Utc local) = local.day
-day_of (Zoned local) = local.day
 
 -- the clock of the zone with an index
 abbrev pub clock_at : List Clock → Option ℕ → Clock

@@ -1,22 +1,23 @@
 -- What a listing under each day is of, the masters that it searches, and how many periods of rules it looks at, at most.
 use Rattle.std.specs.Prelude.{◌≡◌, ◌<ℤ◌, ◌≤ℤ◌, ℕ, ℤ, List, [], map, sum_by, Option, Some, None, ◌≤◌, ◌+◌, ◌+ℤ◌, zero, suc, pos, ◌∷◌}
-use Rattle.std.specs.List.{flat_map, AllByRecursion}
+use Rattle.std.specs.List.{AllByRecursion}
 use Rattle.std.specs.Option.{option_map}
-use Rattle.ics_event.specs.Event.{FileSaid}
+use Rattle.ics_file.specs.File.{FileSaid}
 use Rattle.ics_series.specs.declared.agenda.Agenda.{Agenda}
-use Rattle.ics_series.specs.declared.window.Window.{Window}
+use Rattle.ics_listing.specs.declared.window.Window.{Window}
 use Rattle.ics_series.specs.Chosen.{IsMaster}
-use Rattle.ics_series.specs.Clocks.{Clock}
-use Rattle.ics_series.specs.OnDays.{DayRank, last_near, IsNearDay, first_near, OnDay}
-use Rattle.ics_series.specs.Entry.{entry_cmp, Entry, Rank}
+use Rattle.ics_listing.specs.FileClocks.{Clock}
+use Rattle.ics_listing.specs.DayKeys.{DayRank, last_near, IsNearDay, first_near, OnDay}
+use Rattle.ics_listing.specs.Entry.{entry_cmp, Entry, Rank}
 use Rattle.ics_series.specs.HeldMost.{Master}
 use Rattle.ics_series.specs.Holding.{part_holds, part_looked}
-use Rattle.ics_series.specs.Leads.{listed}
-use Rattle.ics_series.specs.Listing.{IsListing, IsIn}
+use Rattle.ics_listing.specs.Listing.{IsListing, IsIn}
 use Rattle.ics_series.specs.Meets.{IsToCome}
+use Rattle.ics_listing.specs.Merges.{merge_all, merge_holds, merge_looked}
 use Rattle.ics_series.specs.AgendaParts.{part_sources}
 use Rattle.ics_series.specs.PlacedEvents.{Placed}
-use Rattle.ics_series.specs.Sources.{master_at, master_of, recurring, AreSources, Recurring, Source}
+use Rattle.ics_series.specs.Sources.{master_at, master_of, recurring, AreSources}
+use Rattle.ics_listing.specs.FeedSources.{Recurring, Source}
 use Rattle.ics_series.specs.Versions.{by_subject}
 use Rattle.ics_series.specs.Steps.{HasStepBound}
 
@@ -47,15 +48,15 @@ masters_in s masters = map (master_at s.files s.display) masters
 
 -- what the occurrences of an agenda belong to
 abbrev pub agenda_sources : Agenda → List Source
-agenda_sources agenda = flat_map (λ l. part_sources l.feed) agenda.merge.leads.items
+agenda_sources agenda = merge_all part_sources agenda.merge
 
 -- the built occurrences that it holds
 abbrev pub agenda_holds : Agenda → List Entry
-agenda_holds agenda = listed agenda.merge.last (flat_map (λ l. listed l.head (part_holds l.feed)) agenda.merge.leads.items)
+agenda_holds agenda = merge_holds part_holds agenda.merge
 
 -- how many periods of rules it has looked at
 abbrev pub agenda_looked : Agenda → ℕ
-agenda_looked agenda = sum_by (λ l. part_looked l.feed) agenda.merge.leads.items
+agenda_looked agenda = merge_looked part_looked agenda.merge
 
 -- on the day of the key, if there is one, an instant is not before the start in it
 abbrev pub IsFromStart : Option (ℤ × ℤ) → ℤ → ℤ → Type 0

@@ -12,7 +12,7 @@ use Rattle.ics_event.specs.Event.{Rdate}
 use Rattle.ics_values.specs.declared.time.Rdate.TheVariants.{At, Span}
 use Rattle.ics_event.specs.Event.{Time}
 use Rattle.ics_zone.specs.declared.zone.ZoneKind.{ZoneKind}
-use Rattle.ics_series.specs.Clocks.{Clocks}
+use Rattle.ics_listing.specs.FileClocks.{Clocks}
 use Rattle.ics_series.specs.FileZones.{EndsNear, IsEndOf, IsOwnEvent, IsTimeOf}
 use Rattle.ics_series.specs.declared.zones.FileZones.{FileZones}
 

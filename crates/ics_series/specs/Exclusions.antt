@@ -6,9 +6,10 @@ use Rattle.ics_values.specs.declared.stamp.Stamp.{Stamp}
 use Rattle.ics_values.specs.declared.stamp.Stamp.TheVariants.{Date, Floating, Utc, Zoned}
 use Rattle.ics_event.specs.declared.event.Event.{Event}
 use Rattle.ics_event.specs.Event.{Time}
-use Rattle.ics_series.specs.declared.window.Window.{Window}
-use Rattle.ics_series.specs.Clocks.{Clock, Clocks, clock_of, instant, local_at}
-use Rattle.ics_series.specs.Starts.{date_only}
+use Rattle.ics_listing.specs.declared.window.Window.{Window}
+use Rattle.ics_listing.specs.FileClocks.{Clock, Clocks}
+use Rattle.ics_series.specs.Clocks.{clock_of, instant, local_at}
+use Rattle.ics_listing.specs.StartTimes.{date_only}
 use Rattle.ics_fields.specs.Locals.{day_of_local}
 
 -- the day that a clock shows at an instant

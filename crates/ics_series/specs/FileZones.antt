@@ -7,10 +7,11 @@ use Rattle.ics_event.specs.Event.{Length}
 use Rattle.ics_values.specs.declared.time.Length.TheVariants.{Until}
 use Rattle.ics_zone.specs.ZoneSaid.{zone_said}
 use Rattle.ics_zone.specs.declared.zone.ZoneKind.{ZoneKind}
-use Rattle.ics_series.specs.declared.window.Window.{Window}
+use Rattle.ics_listing.specs.declared.window.Window.{Window}
 use Rattle.ics_series.specs.declared.zones.FileZones.{FileZones}
-use Rattle.ics_series.specs.Clocks.{Clocks, clocks_of, display_clock, instant}
-use Rattle.ics_series.specs.WindowBounds.{lasts_most}
+use Rattle.ics_listing.specs.FileClocks.{Clocks}
+use Rattle.ics_series.specs.Clocks.{clocks_of, display_clock, instant}
+use Rattle.ics_listing.specs.WindowBounds.{lasts_most}
 use Rattle.ics_fields.specs.Locals.{whole_days}
 
 abbrev pub clocks_in : FileZones → Clocks

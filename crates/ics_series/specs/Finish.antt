@@ -10,9 +10,10 @@ use Rattle.ics_event.specs.Event.{Time}
 use Rattle.ics_event.specs.Event.{Length}
 use Rattle.ics_values.specs.declared.time.Length.TheVariants.{Open, Until, Lasting}
 use Rattle.ics_event.specs.declared.event.Event.{Event}
-use Rattle.ics_series.specs.Clocks.{Clock, Clocks, clock_of, instant, local_at, day_of}
+use Rattle.ics_listing.specs.FileClocks.{Clock, Clocks, day_of}
+use Rattle.ics_series.specs.Clocks.{clock_of, instant, local_at}
 use Rattle.ics_fields.specs.Locals.{midnight, whole_days}
-use Rattle.ics_series.specs.Starts.{time_of}
+use Rattle.ics_listing.specs.StartTimes.{time_of}
 
 -- How many days an event that starts on a date lasts: up to its DTEND, or the whole days of its DURATION, and at least one.
 abbrev pub days_lasting : ℤ → Length → ℤ

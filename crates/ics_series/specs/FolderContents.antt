@@ -1,6 +1,6 @@
 -- The contents of a folder.
 use Rattle.std.specs.Prelude.{List}
-use Rattle.ics_event.specs.declared.events.FileEvents.{FileEvents}
+use Rattle.ics_file.specs.declared.events.FileEvents.{FileEvents}
 use Rattle.ics_zone.specs.declared.display.Display.{Display}
 
 -- the files in their order, and the zone in which they are shown

@@ -1,29 +1,30 @@
 -- The starts by which an event can meet a window, as they are found.
-use Rattle.std.specs.Prelude.{◌≡◌, ◌≤ℤ◌, ◌-ℤ◌, ℕ, ◌+◌, ℤ, pos, Bool, true, false, not, List, [], ◌∷◌, length, Option, Some, None, if◌then◌else◌}
+use Rattle.std.specs.Prelude.{◌≡◌, ◌≤ℤ◌, ◌-ℤ◌, ℕ, ◌+◌, ℤ, Bool, true, false, not, List, [], ◌∷◌, length, Option, Some, None, if◌then◌else◌}
 use Rattle.std.specs.Int.{int_min}
-use Rattle.std.specs.Option.{option_eq}
-use Rattle.std.specs.Ordering.{int_cmp, int_eq, nat_cmp, on, then_cmp}
-use Rattle.std.specs.declared.cmp.Ordering.{Ordering}
 use Rattle.ics_fields.specs.declared.local.Local.{Local}
 use Rattle.ics_event.specs.Event.{IsRdate, RdateBelow}
 use Rattle.ics_event.specs.declared.event.Event.{Event}
 use Rattle.ics_event.specs.Event.{Rdate}
 use Rattle.ics_values.specs.declared.time.Rdate.TheVariants.{At, Span}
 use Rattle.ics_event.specs.Event.{Time}
-use Rattle.ics_series.specs.declared.start.StartSource.{StartSource}
-use Rattle.ics_series.specs.declared.start.StartSource.TheVariants.{Kept, Listed}
-use Rattle.ics_series.specs.declared.start.Start.{Start}
-use Rattle.ics_series.specs.declared.window.Window.{Window}
+use Rattle.ics_listing.specs.declared.start.StartSource.{StartSource}
+use Rattle.ics_listing.specs.declared.start.StartSource.TheVariants.{Kept, Listed}
+use Rattle.ics_listing.specs.declared.start.Start.{Start}
+use Rattle.ics_listing.specs.declared.window.Window.{Window}
 use Rattle.ics_series.specs.declared.zones.FileZones.{FileZones}
-use Rattle.ics_series.specs.Clocks.{Clocks, instant}
-use Rattle.ics_series.specs.Entry.{Entry}
+use Rattle.ics_listing.specs.FileClocks.{Clocks}
+use Rattle.ics_series.specs.Clocks.{instant}
+use Rattle.ics_listing.specs.Entry.{Entry}
 use Rattle.ics_series.specs.Finish.{seconds_lasting}
-use Rattle.ics_series.specs.Listing.{IsIn}
-use Rattle.ics_series.specs.Rising.{Rises}
-use Rattle.ics_series.specs.Meeting.{is_met, entry_from}
+use Rattle.ics_listing.specs.Listing.{IsIn}
+use Rattle.ics_listing.specs.Rising.{Rises}
+use Rattle.ics_listing.specs.WindowMeeting.{is_met}
+use Rattle.ics_series.specs.Meeting.{entry_from}
 use Rattle.ics_series.specs.Meets.{Meets}
-use Rattle.ics_series.specs.Starts.{given_by, time_at, time_of, GivesStart, IsNotAfter}
+use Rattle.ics_series.specs.Starts.{given_by, GivesStart}
+use Rattle.ics_listing.specs.StartTimes.{time_at, time_of}
 use Rattle.ics_series.specs.FileZones.{clocks_in, is_past}
+use Rattle.ics_listing.specs.StartOrder.{HasStart, moment_cmp}
 
 -- the start that a source gives by a value
 abbrev pub start_by : Clocks → StartSource → Rdate → Start
@@ -52,58 +53,12 @@ pub record IsSought (clocks : Clocks) (event : Event) (w : Window) (t : ℤ) : T
   pub starts : instant clocks (time_of given) ≡ t
   pub meets : Meets w (entry_from clocks event given)
 
--- the list has a start at this instant, from this source or an earlier one
-pub record HasStart (starts : List Start) (source : StartSource) (t : ℤ) : Type 0 where
-  pub start : Start
-  pub stands : IsIn start starts
-  pub same : start.moment ≡ t
-  pub earlier : IsNotAfter start.source source
-
--- by instant
-abbrev pub moment_cmp : Start → Start → Ordering
-moment_cmp = on (λ s. s.moment) int_cmp
-
--- the part of the order of a source: locals come before RDATEs
-abbrev pub part_of : StartSource → ℕ
-part_of (Kept local) = 0
-part_of (Listed place) = 1
-
--- the day of a local
-abbrev pub day_in : StartSource → ℤ
-day_in (Kept local) = local.day
-day_in (Listed place) = pos 0
-
--- the second of a local, and the place of an RDATE
-abbrev pub place_in : StartSource → ℕ
-place_in (Kept local) = local.second
-place_in (Listed place) = place
-
--- locals come first, in their order, and then RDATEs in the order of the file
-abbrev pub source_cmp : StartSource → StartSource → Ordering
-source_cmp = then_cmp (on part_of nat_cmp) (then_cmp (on day_in int_cmp) (on place_in nat_cmp))
-
--- by instant, then by what gives the start
-abbrev pub start_cmp : Start → Start → Ordering
-start_cmp = then_cmp moment_cmp (on (λ s. s.source) source_cmp)
-
--- of these starts, at each instant the one from the first source
-pub record AreFirsts (starts firsts : List Start) : Type 0 where
-  pub rises : Rises moment_cmp firsts
-  pub are : (s : Start) → IsIn s firsts → IsIn s starts
-  pub all : (s : Start) → IsIn s starts → HasStart firsts s.source s.moment
-
 -- the same, but only starts that can meet the window and are not before `since` need to be there
 pub record AreStartsSince (clocks : Clocks) (event : Event) (w : Window) (since : ℤ) (starts : List Start) : Type 0 where
   pub rises : Rises moment_cmp starts
   pub are : (s : Start) → IsIn s starts → IsStart clocks event s
   pub all : (source : StartSource) (given : Rdate) → GivesStart clocks event source given → IsSought clocks event w (instant clocks (time_of given)) →
       since ≤ℤ instant clocks (time_of given) → HasStart starts source (instant clocks (time_of given))
-
--- the first of each run of starts at one instant, if the list so far ended with a start at the instant `last`
-abbrev pub firsts_after : Option ℤ → List Start → List Start
-firsts_after last [] = []
-firsts_after last (s ∷ starts) =
-    if option_eq int_eq last (Some s.moment) then firsts_after (Some s.moment) starts else s ∷ firsts_after (Some s.moment) starts
 
 -- the occurrence with this start, if it meets the window
 abbrev pub met_by : Clocks → Window → Event → Start → Option Entry

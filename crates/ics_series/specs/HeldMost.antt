@@ -5,12 +5,14 @@ use Rattle.ics_rule.specs.Kept.{count, is_kept}
 use Rattle.ics_rule.specs.Recurrence.{Recurrence}
 use Rattle.ics_event.specs.declared.event.Event.{Event}
 use Rattle.ics_event.specs.Event.{Rdate}
-use Rattle.ics_series.specs.declared.start.StartSource.{StartSource}
-use Rattle.ics_series.specs.Clocks.{Clocks, instant}
+use Rattle.ics_listing.specs.declared.start.StartSource.{StartSource}
+use Rattle.ics_listing.specs.FileClocks.{Clocks}
+use Rattle.ics_series.specs.Clocks.{instant}
 use Rattle.ics_fields.specs.Days.{days_before_year}
 use Rattle.ics_fields.specs.Locals.{midnight, calendar_end}
 use Rattle.ics_series.specs.RuleStarts.{lets_until, moment_numbered}
-use Rattle.ics_series.specs.Starts.{given_by, recurrence_of, time_of, GivesStart}
+use Rattle.ics_series.specs.Starts.{given_by, recurrence_of, GivesStart}
+use Rattle.ics_listing.specs.StartTimes.{time_of}
 
 -- an instant is in the five UTC days that begin with this one
 abbrev pub is_within_days : ℤ → ℤ → Bool

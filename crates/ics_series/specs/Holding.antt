@@ -5,8 +5,8 @@ use Rattle.ics_series.specs.declared.part.Part.{Part}
 use Rattle.ics_series.specs.declared.part.Part.TheVariants.{Singles, Series}
 use Rattle.ics_series.specs.declared.rule_starts.RuleStarts.{RuleStarts}
 use Rattle.ics_series.specs.declared.series.Series.{Series as SeriesFeed}
-use Rattle.ics_series.specs.declared.start.Start.{Start}
-use Rattle.ics_series.specs.Entry.{Entry}
+use Rattle.ics_listing.specs.declared.start.Start.{Start}
+use Rattle.ics_listing.specs.Entry.{Entry}
 use Rattle.ics_series.specs.Meeting.{entry_from}
 use Rattle.ics_series.specs.FileZones.{clocks_in}
 use Rattle.ics_series.specs.RuleFeed.{held_in}

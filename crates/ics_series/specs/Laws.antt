@@ -7,31 +7,33 @@ use Rattle.ics_fields.specs.RuleParts.{RuleParts}
 use Rattle.ics_fields.specs.declared.local.Local.{Local}
 use Rattle.ics_fields.specs.declared.until.Until.TheVariants as until
 use Rattle.ics_rule.specs.declared.kind.Kind.TheVariants.{DateTime}
-use Rattle.ics_event.specs.Event.{FileSaid, IsRdate, IsTime}
+use Rattle.ics_file.specs.File.{FileSaid}
+use Rattle.ics_event.specs.Event.{IsRdate, IsTime}
 use Rattle.ics_event.specs.declared.event.Event.{Event}
 use Rattle.ics_event.specs.Event.{Rdate}
 use Rattle.ics_values.specs.declared.time.Rdate.TheVariants.{At}
 use Rattle.ics_event.specs.Event.{Time}
-use Rattle.ics_series.specs.declared.window.Window.{Window}
+use Rattle.ics_listing.specs.declared.window.Window.{Window}
 use Rattle.ics_series.specs.declared.zones.FileZones.{FileZones}
 use Rattle.ics_series.specs.Chosen.{subject_of, IsChosen, IsMaster}
-use Rattle.ics_series.specs.Clocks.{Clock, Clocks, instant}
-use Rattle.ics_series.specs.Entry.{Entry, Rank, entry_cmp, rank_cmp, rank_of}
+use Rattle.ics_listing.specs.FileClocks.{Clock, Clocks}
+use Rattle.ics_series.specs.Clocks.{instant}
+use Rattle.ics_listing.specs.Entry.{Entry, Rank, entry_cmp, rank_cmp, rank_of}
 use Rattle.ics_series.specs.Exclusions.{excludes, is_excluded}
 use Rattle.ics_series.specs.Finish.{finish}
-use Rattle.ics_series.specs.Found.{source_cmp}
+use Rattle.ics_listing.specs.StartOrder.{source_cmp}
 use Rattle.ics_series.specs.HeldMost.{held_most, most_in_days, raw_in, IsRaw}
-use Rattle.ics_series.specs.Listing.{IsListing}
+use Rattle.ics_listing.specs.Listing.{IsListing}
 use Rattle.ics_series.specs.Meets.{IsListed, IsToCome}
-use Rattle.ics_series.specs.Merged.{merged, IsFromFirst}
 use Rattle.ics_series.specs.Occurs.{IsInstance, Occurs}
 use Rattle.ics_series.specs.PlacedEvents.{Placed, IsPlaced}
-use Rattle.ics_series.specs.Rising.{Rises}
-use Rattle.ics_series.specs.Sources.{master_at, master_of, recurring, AreSources, Source}
-use Rattle.ics_series.specs.Starts.{kind_of, local_of, time_of, GivesStart}
+use Rattle.ics_series.specs.Sources.{master_at, master_of, recurring, AreSources}
+use Rattle.ics_listing.specs.FeedSources.{Source}
+use Rattle.ics_series.specs.Starts.{kind_of, GivesStart}
+use Rattle.ics_listing.specs.StartTimes.{local_of, time_of}
 use Rattle.ics_series.specs.Versions.{by_subject}
-use Rattle.ics_series.specs.declared.start.StartSource.{StartSource}
-use Rattle.ics_series.specs.declared.start.StartSource.TheVariants.{Kept}
+use Rattle.ics_listing.specs.declared.start.StartSource.{StartSource}
+use Rattle.ics_listing.specs.declared.start.StartSource.TheVariants.{Kept}
 use Rattle.ics_series.specs.FileZones.{clocks_in}
 
 -- a window has one listing at most
@@ -53,11 +55,6 @@ ListingBehind =
     (files : List FileSaid) (display : Clock) (w : Window) (front : List Entry) (o : Entry) (behind ys : List Entry)
     → IsListing entry_cmp (IsListed files display w) (front ++ o ∷ behind)
     → IsListing entry_cmp (IsToCome files display w (Some (rank_of o))) ys → ys ≡ behind
-
--- the merge of rising lists is the listing of their entries. If several lists have a key, the entry of the first of them counts
-abbrev pub ListingMerged : Type 0
-ListingMerged =
-    (lists : List (List Entry)) → All (Rises entry_cmp) lists → IsListing entry_cmp (λ o. IsFromFirst entry_cmp o lists) (merged entry_cmp lists)
 
 -- the one version that counts of those that have the UID of an event and override the same instance
 pub record HasVersion (files : List FileSaid) (display : Clock) (p : Placed) : Type 0 where

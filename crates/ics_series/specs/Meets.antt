@@ -1,11 +1,11 @@
 -- Which occurrences the listing of a window shows.
 use Rattle.std.specs.Prelude.{◌≡◌, ◌⊎◌, ◌<ℤ◌, ◌≤ℤ◌, IsTrue, List, Option, Some, None}
 use Rattle.std.specs.declared.cmp.Ordering.TheVariants.{Less}
-use Rattle.ics_event.specs.Event.{FileSaid}
-use Rattle.ics_series.specs.declared.window.Window.{Window}
+use Rattle.ics_file.specs.File.{FileSaid}
+use Rattle.ics_listing.specs.declared.window.Window.{Window}
 use Rattle.ics_event.specs.declared.event.Event.{Event}
-use Rattle.ics_series.specs.Clocks.{Clock, Clocks}
-use Rattle.ics_series.specs.Entry.{Entry, Rank, rank_cmp, rank_of}
+use Rattle.ics_listing.specs.FileClocks.{Clock, Clocks}
+use Rattle.ics_listing.specs.Entry.{Entry, Rank, rank_cmp, rank_of}
 use Rattle.ics_series.specs.Occurs.{IsOf, Occurs}
 
 -- an occurrence meets a window

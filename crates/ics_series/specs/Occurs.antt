@@ -1,17 +1,19 @@
 -- Which occurrences the files of a folder have (RFC 5545, sections 3.6.1, 3.8.4 and 3.8.5).
 use Rattle.std.specs.Prelude.{◌≡◌, ◌⊎◌, ℤ, false, List}
-use Rattle.ics_event.specs.Event.{FileSaid}
+use Rattle.ics_file.specs.File.{FileSaid}
 use Rattle.ics_event.specs.declared.event.Event.{Event}
 use Rattle.ics_event.specs.Event.{Rdate}
 use Rattle.ics_values.specs.declared.time.Rdate.TheVariants.{At}
 use Rattle.ics_series.specs.Chosen.{IsMaster, IsOverride, IsOverridden}
-use Rattle.ics_series.specs.Clocks.{Clock, Clocks, instant}
-use Rattle.ics_series.specs.Entry.{Entry}
+use Rattle.ics_listing.specs.FileClocks.{Clock, Clocks}
+use Rattle.ics_series.specs.Clocks.{instant}
+use Rattle.ics_listing.specs.Entry.{Entry}
 use Rattle.ics_series.specs.Exclusions.{is_excluded}
 use Rattle.ics_series.specs.Finish.{finish}
 use Rattle.ics_series.specs.PlacedEvents.{Placed, clocks_at}
-use Rattle.ics_series.specs.Starts.{time_of, GivesStart, IsNotAfter}
-use Rattle.ics_series.specs.declared.start.StartSource.{StartSource}
+use Rattle.ics_listing.specs.StartTimes.{time_of, IsNotAfter}
+use Rattle.ics_series.specs.Starts.{GivesStart}
+use Rattle.ics_listing.specs.declared.start.StartSource.{StartSource}
 
 -- an event occurs from this instant to that one. If several sources give the start, the first gives the finish. No EXDATE removes the start
 pub record IsInstance (clocks : Clocks) (event : Event) (start end : ℤ) : Type 0 where

@@ -1,6 +1,6 @@
 -- The occurrences that no override replaces, as they are told by the versions that count.
 use Rattle.std.specs.Prelude.{◌||◌, Bool, not, List, Some, is_some}
-use Rattle.ics_series.specs.Entry.{Entry}
+use Rattle.ics_listing.specs.Entry.{Entry}
 use Rattle.ics_series.specs.Versions.{Label, is_named}
 
 -- an occurrence is that of an override, or no version overrides it

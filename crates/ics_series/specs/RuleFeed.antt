@@ -3,12 +3,12 @@ use Rattle.std.specs.Prelude.{◌≡◌, ◌<◌, ◌≤◌, ◌-ℤ◌, ℕ, �
 use Rattle.ics_fields.specs.Locals.{year_number}
 use Rattle.ics_rule.specs.Cursors.{place_of}
 use Rattle.ics_series.specs.declared.rule_starts.RuleStarts.{RuleStarts}
-use Rattle.ics_series.specs.declared.start.Start.{Start}
+use Rattle.ics_listing.specs.declared.start.Start.{Start}
 use Rattle.ics_series.specs.Clocks.{clock_of}
 use Rattle.ics_series.specs.Exclusions.{is_day_in}
 use Rattle.ics_series.specs.RuleStarts.{is_behind, settled_by, to_come}
 use Rattle.ics_series.specs.FileZones.{clocks_in}
-use Rattle.ics_series.specs.Waiting.{starts_in}
+use Rattle.ics_listing.specs.Waiting.{starts_in}
 
 -- the starts that are held
 abbrev pub held_in : RuleStarts → List Start

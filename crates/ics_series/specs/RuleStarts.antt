@@ -14,16 +14,18 @@ use Rattle.ics_rule.specs.declared.cursor.Cursor.{Cursor}
 use Rattle.ics_event.specs.declared.event.Event.{Event}
 use Rattle.ics_values.specs.declared.stamp.Stamp.{Stamp}
 use Rattle.ics_values.specs.declared.stamp.Stamp.TheVariants.{Date, Floating, Utc, Zoned}
-use Rattle.ics_series.specs.declared.start.StartSource.{StartSource}
-use Rattle.ics_series.specs.declared.start.StartSource.TheVariants.{Kept, Listed}
-use Rattle.ics_series.specs.declared.start.Start.{Start}
-use Rattle.ics_series.specs.declared.window.Window.{Window}
-use Rattle.ics_series.specs.Clocks.{Clocks, instant}
-use Rattle.ics_series.specs.Found.{moment_cmp, start_at}
+use Rattle.ics_listing.specs.declared.start.StartSource.{StartSource}
+use Rattle.ics_listing.specs.declared.start.StartSource.TheVariants.{Kept, Listed}
+use Rattle.ics_listing.specs.declared.start.Start.{Start}
+use Rattle.ics_listing.specs.declared.window.Window.{Window}
+use Rattle.ics_listing.specs.FileClocks.{Clocks}
+use Rattle.ics_series.specs.Clocks.{instant}
+use Rattle.ics_listing.specs.StartOrder.{moment_cmp}
+use Rattle.ics_series.specs.Found.{start_at}
 use Rattle.ics_zone.specs.Observances.{is_until}
-use Rattle.ics_series.specs.Listing.{IsIn}
-use Rattle.ics_series.specs.Merged.{put, union}
-use Rattle.ics_series.specs.Starts.{time_at}
+use Rattle.ics_listing.specs.Listing.{IsIn}
+use Rattle.ics_listing.specs.Merged.{put, union}
+use Rattle.ics_listing.specs.StartTimes.{time_at}
 
 -- the local with a number
 abbrev pub local_numbered : ℕ → Local

@@ -3,13 +3,13 @@ use Rattle.std.specs.Prelude.{◌≡◌, ℤ, List, [], ◌∷◌, Option, Some,
 use Rattle.std.specs.Coded.{×_prop, Unit-prop, Π_prop}
 use Rattle.std.proofs.Props.{props}
 use Rattle.ics_event.specs.declared.event.Event.{Event}
-use Rattle.ics_series.specs.declared.window.Window.{Window}
-use Rattle.ics_series.specs.Clocks.{Clocks}
-use Rattle.ics_series.specs.Sources.{Source}
-use Rattle.ics_series.specs.Sources.Source.{Of}
+use Rattle.ics_listing.specs.declared.window.Window.{Window}
+use Rattle.ics_listing.specs.FileClocks.{Clocks}
+use Rattle.ics_listing.specs.FeedSources.{Source}
+use Rattle.ics_listing.specs.FeedSources.Source.{Of}
 use Rattle.ics_series.specs.declared.series.Series.{Series}
-use Rattle.ics_series.specs.declared.start.Start.{Start}
-use Rattle.ics_series.specs.Entry.{Entry}
+use Rattle.ics_listing.specs.declared.start.Start.{Start}
+use Rattle.ics_listing.specs.Entry.{Entry}
 use Rattle.ics_series.specs.SeriesStarts.{given_of, left, rule_asked, HasSameRule, IsAskedNear}
 use Rattle.ics_series.specs.FileZones.{clocks_in}
 use Rattle.ics_series.specs.SeriesLaws.{event-set}

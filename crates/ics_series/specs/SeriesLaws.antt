@@ -4,11 +4,11 @@ use Rattle.std.specs.Coded.{Unit-prop, Π_prop, codes}
 use Rattle.std.proofs.Props.{props}
 use Rattle.ics_event.specs.declared.event.Event.{Event}
 use Rattle.ics_series.specs.declared.rule_starts.RuleStarts.{RuleStarts}
-use Rattle.ics_series.specs.declared.start.Start.{Start}
-use Rattle.ics_series.specs.declared.window.Window.{Window}
+use Rattle.ics_listing.specs.declared.start.Start.{Start}
+use Rattle.ics_listing.specs.declared.window.Window.{Window}
 use Rattle.ics_series.specs.declared.zones.FileZones.{FileZones}
-use Rattle.ics_series.specs.Clocks.{Clocks}
-use Rattle.ics_series.specs.Entry.{Entry}
+use Rattle.ics_listing.specs.FileClocks.{Clocks}
+use Rattle.ics_listing.specs.Entry.{Entry}
 use Rattle.ics_series.specs.Exclusions.{AreExclusions}
 use Rattle.ics_series.specs.SeriesStarts.{AreStartsIn, HasOwnRule, HasRuled}
 use Rattle.ics_series.specs.Found.{IsStartIn}

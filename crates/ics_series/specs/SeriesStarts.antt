@@ -1,5 +1,5 @@
 -- The starts of a series still to come, and the occurrences that they give.
-use Rattle.std.specs.Prelude.{◌≡◌, ◌<◌, ◌≤◌, ◌<ℤ◌, ◌≤ℤ◌, ℕ, ℤ, ◌+ℤ◌, ◌-ℤ◌, Bool, true, false, ◌&&◌, not, int_le, List, [], ◌∷◌, drop, Option, None, Some, ◌⊎◌}
+use Rattle.std.specs.Prelude.{◌≡◌, ◌<◌, ◌≤◌, ◌<ℤ◌, ◌≤ℤ◌, ℕ, ℤ, ◌+ℤ◌, ◌-ℤ◌, Bool, true, false, ◌&&◌, not, int_le, List, [], ◌∷◌, Option, None, Some, ◌⊎◌}
 use Rattle.std.specs.Prelude.{if◌then◌else◌, is_none}
 use Rattle.std.specs.Int.{int_max, int_min}
 use Rattle.std.specs.List.{filter_map, list_any}
@@ -10,32 +10,33 @@ use Rattle.ics_fields.specs.declared.local.Local.{Local}
 use Rattle.ics_fields.specs.Locals.{number, midnight, local_seconds, whole_days}
 use Rattle.ics_rule.specs.Recurrence.{Recurrence}
 use Rattle.ics_event.specs.declared.event.Event.{Event}
-use Rattle.ics_series.specs.declared.listed_starts.ListedStarts.{ListedStarts}
+use Rattle.ics_listing.specs.declared.listed_starts.ListedStarts.{ListedStarts}
 use Rattle.ics_series.specs.declared.rule_starts.RuleStarts.{RuleStarts}
-use Rattle.ics_series.specs.declared.start.Start.{Start}
-use Rattle.ics_series.specs.declared.window.Window.{Window}
+use Rattle.ics_listing.specs.declared.start.Start.{Start}
+use Rattle.ics_listing.specs.declared.window.Window.{Window}
 use Rattle.ics_series.specs.declared.zones.FileZones.{FileZones}
-use Rattle.ics_series.specs.Clocks.{Clocks, instant}
-use Rattle.ics_series.specs.Entry.{Entry}
+use Rattle.ics_listing.specs.FileClocks.{Clocks}
+use Rattle.ics_series.specs.Clocks.{instant}
+use Rattle.ics_listing.specs.Entry.{Entry}
 use Rattle.ics_series.specs.Exclusions.{is_excluded}
-use Rattle.ics_series.specs.Found.{earliest, listed_from, moment_cmp, start_at, IsStartIn}
+use Rattle.ics_series.specs.Found.{earliest, listed_from, start_at, IsStartIn}
+use Rattle.ics_listing.specs.StartOrder.{moment_cmp}
 use Rattle.ics_series.specs.FileZones.{clocks_in}
 use Rattle.ics_series.specs.Leeway.{seconds_back, seconds_late}
-use Rattle.ics_series.specs.Listing.{IsIn}
-use Rattle.ics_series.specs.Meeting.{entry_from, is_met}
-use Rattle.ics_series.specs.Merged.{cut, union}
+use Rattle.ics_listing.specs.Listing.{IsIn}
+use Rattle.ics_series.specs.Meeting.{entry_from}
+use Rattle.ics_listing.specs.WindowMeeting.{is_met}
+use Rattle.ics_listing.specs.Merged.{cut, union}
 use Rattle.ics_series.specs.Meets.{IsEventMet}
 use Rattle.ics_series.specs.RuleFeed.{is_unsettled, starts_left, HasSameSource, HasSkipped}
 use Rattle.ics_series.specs.RuleStarts.{found, moment_numbered}
-use Rattle.ics_series.specs.Starts.{local_of, recurrence_of, time_at, IsRuleStart}
+use Rattle.ics_listing.specs.StartTimes.{local_of, time_at}
+use Rattle.ics_series.specs.Starts.{recurrence_of, IsRuleStart}
+use Rattle.ics_listing.specs.KnownStarts.{listed_left}
 
 -- an occurrence of the event that meets the window and begins at this instant or later
 abbrev pub IsSeriesMet : Clocks → Event → Window → ℤ → Entry → Type 0
 IsSeriesMet clocks event w since o = IsEventMet clocks event w o × (since ≤ℤ o.start)
-
--- the known starts that were not passed yet
-abbrev pub listed_left : ListedStarts → List Start
-listed_left s = drop s.gone s.starts.items
 
 -- the starts that the rule still gives, if there is one
 abbrev pub rule_left : Option RuleStarts → List Start

@@ -6,28 +6,17 @@ use Rattle.std.proofs.Props.{props}
 use Rattle.std.specs.Cmp.Lexicographic.{slice_cmp}
 use Rattle.std.specs.Ordering.{nat_cmp, on}
 use Rattle.std.specs.declared.cmp.Ordering.{Ordering}
-use Rattle.ics_event.specs.Event.{FileSaid}
-use Rattle.ics_event.specs.declared.event.Event.{Event}
-use Rattle.ics_series.specs.declared.window.Window.{Window}
+use Rattle.ics_file.specs.File.{FileSaid}
+use Rattle.ics_listing.specs.declared.window.Window.{Window}
 use Rattle.ics_series.specs.Chosen.{IsMaster}
-use Rattle.ics_series.specs.Clocks.{Clock, Clocks}
-use Rattle.ics_series.specs.Entry.{Rank}
+use Rattle.ics_listing.specs.FileClocks.{Clock}
+use Rattle.ics_listing.specs.Entry.{Rank}
 use Rattle.ics_series.specs.HeldMost.{Master}
 use Rattle.ics_series.specs.PlacedEvents.{Placed, clocks_at}
-use Rattle.ics_series.specs.Rising.{Rises, Rises-prop}
+use Rattle.ics_listing.specs.Rising.{Rises, Rises-prop}
 use Rattle.ics_series.specs.Singles.{is_single}
-
--- a master that recurs, with the clocks by which its times are read, in a window and from an instant on
-pub record Recurring : Type 0 where
-  pub clocks : Clocks
-  pub event : Event
-  pub window : Window
-  pub since : ℤ
-
--- the events of a folder that start once, or such a master
-pub data Source : Type 0 where
-  Once : Source
-  Of : Recurring → Source
+use Rattle.ics_listing.specs.FeedSources.{Recurring, Source}
+use Rattle.ics_listing.specs.FeedSources.Source.{Once, Of}
 
 abbrev pub is_once : Source → Bool
 is_once Once = true

@@ -1,7 +1,7 @@
 -- The places of the events of a folder.
 use Rattle.std.specs.Prelude.{List, Option, slice_get}
 use Rattle.std.specs.Option.{option_and_then}
-use Rattle.ics_event.specs.Event.{FileSaid}
+use Rattle.ics_file.specs.File.{FileSaid}
 use Rattle.ics_event.specs.declared.event.Event.{Event}
 use Rattle.ics_series.specs.declared.spot.Spot.{Spot}
 

@@ -1,8 +1,8 @@
 -- What gives an event its starts (RFC 5545, sections 3.3.10, 3.8.2.4, 3.8.5.2 and 3.8.5.3).
-use Rattle.std.specs.Prelude.{◌≡◌, ◌≤◌, ◌≤ℤ◌, ⊤, true, Option, None, Some, IfSome, ◌⊎◌, slice_get}
+use Rattle.std.specs.Prelude.{◌≡◌, ◌≤ℤ◌, true, Option, Some, IfSome, ◌⊎◌, slice_get}
 use Rattle.std.specs.Option.{option_map}
 use Rattle.ics_fields.specs.Days.{IsDayNumber}
-use Rattle.ics_fields.specs.Locals.{local_at, number, local_seconds}
+use Rattle.ics_fields.specs.Locals.{local_at, number}
 use Rattle.ics_fields.specs.RuleParts.{RuleParts}
 use Rattle.ics_fields.specs.declared.local.Local.{Local}
 use Rattle.ics_values.specs.declared.stamp.Stamp.{Stamp}
@@ -15,9 +15,11 @@ use Rattle.ics_event.specs.Event.{Rdate}
 use Rattle.ics_values.specs.declared.time.Rdate.TheVariants.{At, Span}
 use Rattle.ics_event.specs.Event.{Time}
 use Rattle.ics_event.specs.declared.event.Event.{Event}
-use Rattle.ics_series.specs.Clocks.{Clocks, day_of, instant}
-use Rattle.ics_series.specs.declared.start.StartSource.{StartSource}
-use Rattle.ics_series.specs.declared.start.StartSource.TheVariants.{Kept, Listed}
+use Rattle.ics_listing.specs.FileClocks.{Clocks}
+use Rattle.ics_series.specs.Clocks.{instant}
+use Rattle.ics_listing.specs.declared.start.StartSource.{StartSource}
+use Rattle.ics_listing.specs.declared.start.StartSource.TheVariants.{Kept, Listed}
+use Rattle.ics_listing.specs.StartTimes.{local_of, time_at, date_only, time_of}
 
 -- an event that starts on a date recurs by dates
 abbrev pub kind_of : Stamp → Kind
@@ -25,24 +27,6 @@ kind_of (Date day) = kind.Date
 kind_of (Floating local) = kind.DateTime
 kind_of (Utc local) = kind.DateTime
 kind_of (Zoned local) = kind.DateTime
-
--- the local of a stamp; that of a date is its midnight
-abbrev pub local_of : Stamp → Local
-local_of (Date day) = local_at day 0
-local_of (Floating local) = local
-local_of (Utc local) = local
-local_of (Zoned local) = local
-
--- the stamp of the same kind for another local; a date has the local's day
-abbrev pub stamp_at : Stamp → Local → Stamp
-stamp_at (Date day) local = Date local.day
-stamp_at (Floating first) local = Floating local
-stamp_at (Utc first) local = Utc local
-stamp_at (Zoned first) local = Zoned local
-
--- the time of the same kind, in the same zone, at another local
-abbrev pub time_at : Time → Local → Time
-time_at time local = record { stamp = stamp_at time.stamp local; zone = time.zone }
 
 -- a rule as that of an event with this DTSTART
 abbrev pub recurrence_by : Stamp → RuleParts → Recurrence
@@ -60,15 +44,6 @@ pub record IsRuleStart (clocks : Clocks) (event : Event) (local : Local) : Type 
   pub calendar : IsDayNumber local.day
   pub kept : is_kept rule (number local) ≡ true
   pub until : IfSome (until_moment rule) (λ last. instant clocks (time_at event.start local) ≤ℤ last)
-
--- the date of a time
-abbrev pub date_only : Time → Time
-date_only time = record { stamp = Date (day_of time.stamp); zone = None }
-
--- the time at which a value of an RDATE begins
-abbrev pub time_of : Rdate → Time
-time_of (At time) = time
-time_of (Span start length) = start
 
 -- a time of an RDATE, if the event has date-times. A date means that date at DTSTART's time of day, in DTSTART's zone
 abbrev pub time_by : Time → Time → Stamp → Time
@@ -93,10 +68,3 @@ GivesStart clocks event (Kept local) given =
     ((local ≡ local_of event.start.stamp) ⊎ IsRuleStart clocks event local) × (given ≡ At (time_at event.start local))
 GivesStart clocks event (Listed place) given =
     (rdate : Rdate) × (slice_get event.rdates place ≡ Some rdate) × (given ≡ given_by event.start rdate)
-
--- One source of starts is not after another. Locals come first, in their order, and then RDATEs in the order of the file.
-abbrev pub IsNotAfter : StartSource → StartSource → Type 0
-IsNotAfter (Kept a) (Kept b) = local_seconds a ≤ℤ local_seconds b
-IsNotAfter (Kept a) (Listed place) = ⊤
-IsNotAfter (Listed place) (Kept b) = ⊥
-IsNotAfter (Listed a) (Listed b) = a ≤ b

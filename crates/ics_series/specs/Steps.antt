@@ -6,13 +6,14 @@ use Rattle.ics_rule.specs.Cursors.{looks_from, period_count}
 use Rattle.ics_fields.specs.Locals.{number, local_seconds, whole_days, year_number}
 use Rattle.ics_rule.specs.Kept.{until_moment}
 use Rattle.ics_rule.specs.Recurrence.{Recurrence}
-use Rattle.ics_series.specs.Entry.{Entry}
+use Rattle.ics_listing.specs.Entry.{Entry}
 use Rattle.ics_series.specs.Leeway.{seconds_back, seconds_off}
-use Rattle.ics_series.specs.Listing.{IsIn}
+use Rattle.ics_listing.specs.Listing.{IsIn}
 use Rattle.ics_series.specs.RuleStarts.{ends_at}
 use Rattle.ics_series.specs.SeriesStarts.{first_of, IsKeptAt}
-use Rattle.ics_series.specs.Sources.{Recurring}
-use Rattle.ics_series.specs.Starts.{local_of, recurrence_of}
+use Rattle.ics_listing.specs.FeedSources.{Recurring}
+use Rattle.ics_listing.specs.StartTimes.{local_of}
+use Rattle.ics_series.specs.Starts.{recurrence_of}
 
 -- The local with this number is not past DTSTART, or not past so many seconds and a day before the first instant that is needed. That is the
 -- first at which an event of this length can still meet the window or, if it is earlier, the earliest start by a PERIOD that meets it by its own

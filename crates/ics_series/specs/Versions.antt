@@ -6,14 +6,14 @@ use Rattle.std.specs.Ordering.{int_cmp, int_eq, is_eq, nat_cmp, on, then_cmp}
 use Rattle.std.specs.Cmp.Lexicographic.{slice_cmp}
 use Rattle.std.specs.Str.{bytes_eq}
 use Rattle.std.specs.declared.cmp.Ordering.{Ordering}
-use Rattle.ics_event.specs.Event.{FileSaid}
+use Rattle.ics_file.specs.File.{FileSaid}
 use Rattle.ics_event.specs.declared.event.Event.{Event}
 use Rattle.ics_series.specs.declared.spot.Spot.{Spot}
 use Rattle.ics_series.specs.declared.version.Subject.{Subject}
 use Rattle.ics_series.specs.declared.version.Version.{Version}
 use Rattle.ics_series.specs.Chosen.{SubjectSeen, subject_by, subject_of, IsChosen}
-use Rattle.ics_series.specs.Clocks.{Clock, Clocks}
-use Rattle.ics_series.specs.Listing.{IsListing}
+use Rattle.ics_listing.specs.FileClocks.{Clock, Clocks}
+use Rattle.ics_listing.specs.Listing.{IsListing}
 use Rattle.ics_series.specs.PlacedEvents.{Placed, placed_cmp}
 
 -- what identifies a version

@@ -1,10 +1,10 @@
 -- What a window lists, and how the listings of windows that adjoin or contain each other fit together.
 use Rattle.std.specs.Prelude.{◌≡◌, ◌↔◌, ◌≤ℤ◌, ◌<ℤ◌, ◌+ℤ◌, ℤ, pos, true, false, IsTrue, List, ◌++◌}
-use Rattle.ics_event.specs.Event.{FileSaid}
-use Rattle.ics_series.specs.declared.window.Window.{Window}
-use Rattle.ics_series.specs.Clocks.{Clock}
-use Rattle.ics_series.specs.Entry.{Entry, entry_cmp}
-use Rattle.ics_series.specs.Listing.{IsIn, IsListing}
+use Rattle.ics_file.specs.File.{FileSaid}
+use Rattle.ics_listing.specs.declared.window.Window.{Window}
+use Rattle.ics_listing.specs.FileClocks.{Clock}
+use Rattle.ics_listing.specs.Entry.{Entry, entry_cmp}
+use Rattle.ics_listing.specs.Listing.{IsIn, IsListing}
 use Rattle.ics_series.specs.Meets.{IsListed, Meets}
 use Rattle.ics_series.specs.Occurs.{Occurs}
 

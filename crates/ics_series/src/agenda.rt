@@ -1,44 +1,39 @@
 //! The listing of a window.
 ghost use Rattle.std.specs.Prelude.{◌≡◌, ◌≤◌, ◌-◌, ◌^◌, ℕ, List, [], filter, length, map, min, sum_by, IfOk};
-ghost use Rattle.std.specs.List.{flat_map};
 ghost use Rattle.std.specs.List.Sorted.{IsSorted};
 ghost use Rattle.std.specs.Option.{option_map};
 ghost use Rattle.std.specs.Ordering.{on};
-ghost use Rattle.ics_event.specs.Event.{said_by};
-ghost use Rattle.ics_series.specs.After.{after_key, is_after};
+ghost use Rattle.ics_file.specs.File.{said_by};
+ghost use Rattle.ics_listing.specs.After.{after_key};
 ghost use Rattle.ics_series.specs.Clocks.{display_clock};
-ghost use Rattle.ics_series.specs.Entry.{Entry, entry_cmp, entry_of, key_rank, rank_of};
-ghost use Rattle.ics_series.specs.Inner.EntryLaws.{entry_total};
+ghost use Rattle.ics_listing.specs.Entry.{Entry, entry_cmp, entry_of, key_rank, rank_of};
 ghost use Rattle.ics_series.specs.HeldMost.{held_most};
 ghost use Rattle.ics_series.specs.Holding.{part_holds, part_looked};
-ghost use Rattle.ics_series.specs.Leads.{listed, past};
-ghost use Rattle.ics_series.specs.Listing.{IsIn, IsListing};
+ghost use Rattle.ics_listing.specs.Listing.{IsIn, IsListing};
 ghost use Rattle.ics_series.specs.Inner.Marks.{AreMarks};
 ghost use Rattle.ics_series.specs.Meets.{IsListed, IsToCome};
-ghost use Rattle.ics_series.specs.Merged.{merged};
-ghost use Rattle.ics_series.specs.Inner.MergedLaws.{rises-filter, rises-merged};
+ghost use Rattle.ics_listing.specs.Merges.{merge_all, merge_coming, merge_holds, merge_looked};
+ghost use Rattle.ics_listing.specs.Inner.MergedLaws.{rises-filter};
+ghost use Rattle.ics_listing.specs.Inner.MergesLaws.{rises-merge};
 ghost use Rattle.ics_series.specs.Occurs.{Occurs};
 ghost use Rattle.ics_series.specs.Overridden.{is_kept};
 ghost use Rattle.ics_series.specs.AgendaParts.{part_coming, part_sources};
-ghost use Rattle.ics_series.specs.Sources.{master_of, recurring, AreApart, AreApart-prop, AreSources, Recurring};
+ghost use Rattle.ics_series.specs.Sources.{master_of, recurring, AreApart, AreApart-prop, AreSources};
+ghost use Rattle.ics_listing.specs.FeedSources.{Recurring};
 ghost use Rattle.ics_series.specs.Steps.{HasStepBound};
-ghost use Rattle.ics_series.specs.Tokens.{IsKey};
+ghost use Rattle.ics_listing.specs.Tokens.{IsKey};
 ghost use Rattle.ics_series.specs.Inner.Spans.{AreMovedOn, AreSpans};
 ghost use Rattle.ics_series.specs.Versions.{seen, subject_cmp, subject_seen, AreChosen};
 
 use crate::chosen::{chosen, is_named, overrides};
-use crate::feed::{Coming, Feed};
-use crate::key::Key;
 use crate::mark::Mark;
 use crate::masters::push_series;
-use crate::merge::Merge;
-use crate::occurrence::Occurrence;
 use crate::part::Part;
 use crate::singles::Singles;
 use crate::span::Span;
 use crate::version::{Subject, Version};
-use crate::window::Window;
-use ics_event::FileEvents;
+use ics_file::FileEvents;
+use ics_listing::{Coming, Feed, Key, Merge, Occurrence, Window};
 use ics_zone::Display;
 use std::alloc::{AllocError, Global};
 
@@ -52,8 +47,7 @@ pub struct Agenda<'a> {
     // The versions that override an instance. What they replace is left out behind the merge.
     overrides: Vec<Version<'a>>,
     ghost in_order: { IsSorted (on (λ v. subject_seen v.subject) subject_cmp) overrides.items },
-    ghost apart: { AreApart (flat_map (λ l. part_sources l.feed) merge.leads.items) } by { AreApart-prop
-        (flat_map (λ l. part_sources l.feed) merge.leads.items) },
+    ghost apart: { AreApart (merge_all part_sources merge) } by { AreApart-prop (merge_all part_sources merge) },
 }
 
 impl<'a> Agenda<'a> {
@@ -138,8 +132,7 @@ impl<'a> Agenda<'a> {
     /// and the greatest number of starts that it has in any five days. The count stops at the greatest
     /// `usize`.
     pub fn held(&self) -> usize
-        ensures count { result ≡ min (length (listed self.now.merge.last (flat_map (λ l. listed l.head (part_holds l.feed)) self.now.merge.leads.items)))
-            (2 ^ 64 - 1) }
+        ensures count { result ≡ min (length (merge_holds part_holds self.now.merge)) (2 ^ 64 - 1) }
         ensures most { result ≤ held_most (map master_of (recurring (⟦<Agenda<'a> as Coming>⟧.sources self.now))) }
     {
         self.merge.held()
@@ -150,7 +143,7 @@ impl<'a> Agenda<'a> {
     /// if the master starts in UTC and has no RDATE, to three days past its first start by its rule still
     /// to come. The count stops at the greatest `u64`.
     pub fn steps(&self) -> u64
-        ensures count { result ≡ min (sum_by (λ l. part_looked l.feed) self.now.merge.leads.items) (2 ^ 64 - 1) }
+        ensures count { result ≡ min (merge_looked part_looked self.now.merge) (2 ^ 64 - 1) }
         ensures most { (most : Recurring → ℕ) → ((m : Recurring) → IsIn m (recurring (⟦<Agenda<'a> as Coming>⟧.sources self.now))
             → HasStepBound m (⟦<Agenda<'a> as Coming>⟧.coming self.now) (most m))
             → result ≤ sum_by most (recurring (⟦<Agenda<'a> as Coming>⟧.sources self.now)) }
@@ -160,25 +153,18 @@ impl<'a> Agenda<'a> {
 }
 
 impl<'a> Coming for Agenda<'a> {
-    ghost use Rattle.std.specs.List.{AllByRecursion, AllByRecursion-prop};
-    ghost use Rattle.ics_series.specs.Leads.{HasNear, HasNear-prop};
-    ghost use Rattle.ics_series.specs.AgendaParts.{part_near, part_near-prop};
+    ghost coming = { λ agenda. filter (is_kept (map seen agenda.overrides.items)) (merge_coming part_coming agenda.merge) };
 
-    ghost coming = { λ agenda. filter (is_kept (map seen agenda.overrides.items))
-        (merged entry_cmp (map (λ l. past agenda.merge.last (listed l.head (part_coming l.feed))) agenda.merge.leads.items)) };
+    ghost sources = { λ agenda. merge_all part_sources agenda.merge };
 
-    ghost sources = { λ agenda. flat_map (λ l. part_sources l.feed) agenda.merge.leads.items };
+    ghost near = { λ agenda o. ⟦<Merge<'a, Part<'a>> as Coming>⟧.near agenda.merge o };
 
-    ghost near = { λ agenda o. AllByRecursion (λ l. HasNear (part_near l.feed) (listed l.head (part_coming l.feed)) o) agenda.merge.leads.items };
-
-    ghost near_prop = { λ agenda o. AllByRecursion-prop (λ l. HasNear (part_near l.feed) (listed l.head (part_coming l.feed)) o)
-        (λ l. HasNear-prop (part_near l.feed) (part_near-prop l.feed) (listed l.head (part_coming l.feed)) o) agenda.merge.leads.items };
+    ghost near_prop = { λ agenda o. ⟦<Merge<'a, Part<'a>> as Coming>⟧.near_prop agenda.merge o };
 }
 
 impl<'a> Feed<'a> for Agenda<'a> {
     ghost rises = { λ agenda. rises-filter entry_cmp (is_kept (map seen agenda.overrides.items))
-        (merged entry_cmp (map (λ l. past agenda.merge.last (listed l.head (part_coming l.feed))) agenda.merge.leads.items))
-        (rises-merged entry_cmp entry_total (map (λ l. past agenda.merge.last (listed l.head (part_coming l.feed))) agenda.merge.leads.items)) };
+        (merge_coming part_coming agenda.merge) (rises-merge part_coming agenda.merge) };
 
     fn next(&mut self) -> Result<Option<Occurrence<'a>>, AllocError> {
         while let Some(occurrence) = self.merge.next()? {
@@ -201,14 +187,4 @@ pub(crate) fn is_kept(occurrence: &Occurrence<'_>, overrides: &[Version<'_>]) ->
         recurrence: Some(occurrence.recurrence),
     };
     event.recurrence.is_some() || !is_named(subject, overrides)
-}
-
-/// Whether an occurrence comes after the key, if there is one.
-pub(crate) fn is_after(after: Option<&Key>, occurrence: &Occurrence<'_>) -> bool
-    ensures { result ≡ is_after (option_map (λ key. key_rank key.now) after.entry) (entry_of occurrence.now) }
-{
-    match after {
-        None => true,
-        Some(key) => key.is_before(occurrence),
-    }
 }

@@ -2,14 +2,14 @@
 ghost use Rattle.std.specs.Prelude.{◌≡◌, filter, map, IfOk};
 ghost use Rattle.std.specs.List.Sorted.{IsSorted};
 ghost use Rattle.std.specs.Ordering.{on};
-ghost use Rattle.ics_event.specs.Event.{said_by};
+ghost use Rattle.ics_file.specs.File.{said_by};
 ghost use Rattle.ics_series.specs.Clocks.{display_clock};
 ghost use Rattle.ics_series.specs.Versions.{is_followed, is_named, is_override, is_same, lasts, seen, subject_cmp, subject_seen, AreChosen};
 ghost use Rattle.ics_series.specs.Inner.Whole.{AreRead};
 
 use crate::version::{Subject, Version};
 use crate::versions::{compare, versions};
-use ics_event::FileEvents;
+use ics_file::FileEvents;
 use ics_zone::Display;
 use std::alloc::{AllocError, Global};
 

@@ -6,13 +6,12 @@ ghost use Rattle.ics_series.specs.Clocks.{clock_of, instant};
 ghost use Rattle.ics_series.specs.Exclusions.{excludes, is_among, shown_day, takes_out, with_instant};
 ghost use Rattle.ics_series.specs.FileZones.{clocks_in, is_past, IsTimeOf};
 ghost use Rattle.ics_fields.specs.Locals.{day_of_local};
-ghost use Rattle.ics_series.specs.WindowBounds.{window_last, occurrence_first};
+ghost use Rattle.ics_listing.specs.WindowBounds.{window_last, occurrence_first};
 
 use crate::instant::{instant, is_past};
-use crate::start::date_of;
-use crate::window::Window;
 use crate::zones::FileZones;
 use ics_event::{Event, Time};
+use ics_listing::{Window, date_of};
 use ics_values::{Local, Moment, Stamp};
 use ics_zone::{Bounds, Place};
 use std::alloc::{AllocError, Global};
@@ -31,7 +30,8 @@ impl Exclusions {
     ghost use Rattle.std.specs.Prelude.{true, MatchOption};
     ghost use Rattle.jiff_core.specs.Calendar.{IsBetween, IsWithin};
     ghost use Rattle.ics_fields.specs.Locals.{year_seconds};
-    ghost use Rattle.ics_series.specs.Clocks.{Clock, IsBounded};
+    ghost use Rattle.ics_listing.specs.FileClocks.{Clock};
+    ghost use Rattle.ics_series.specs.Clocks.{IsBounded};
     ghost use Rattle.ics_series.specs.Exclusions.{is_day_in, AreExclusions};
     ghost use Rattle.ics_series.specs.FileZones.{IsOwnEvent};
 

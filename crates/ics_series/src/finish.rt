@@ -6,13 +6,13 @@ ghost use Rattle.ics_fields.specs.Locals.{midnight, whole_days, year_seconds};
 ghost use Rattle.ics_series.specs.Finish.{end_by, finish, later_by, span_end};
 ghost use Rattle.ics_series.specs.Found.{IsStartIn};
 ghost use Rattle.ics_series.specs.FileZones.{clocks_in, EndsNear, HasEndIn, IsEndOf, IsOwnEvent, IsTimeOf};
-ghost use Rattle.ics_series.specs.WindowBounds.{lasts_most, window_last, occurrence_first};
+ghost use Rattle.ics_listing.specs.WindowBounds.{lasts_most, window_last, occurrence_first};
 
 use crate::instant::instant;
 use crate::lasting::{day_of, days_lasting};
-use crate::start::Start;
 use crate::zones::FileZones;
 use ics_event::{Event, Length, Rdate, Time};
+use ics_listing::Start;
 use ics_values::{Duration, Local, Moment, Stamp};
 use ics_zone::{Display, Place};
 

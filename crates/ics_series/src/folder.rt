@@ -1,28 +1,26 @@
 //! The events of a folder.
 ghost use Rattle.std.specs.Prelude.{◌≡◌, List, map, IfOk};
 ghost use Rattle.std.specs.Option.{option_map};
-ghost use Rattle.ics_event.specs.Event.{said_by};
-ghost use Rattle.ics_series.specs.After.{after_key};
+ghost use Rattle.ics_file.specs.File.{said_by};
+ghost use Rattle.ics_listing.specs.After.{after_key};
 ghost use Rattle.ics_series.specs.Ahead.{scope_of, IsAhead};
 ghost use Rattle.ics_series.specs.Clocks.{display_clock};
-ghost use Rattle.ics_series.specs.OnDays.{day_key_rank, day_rank_of, after_day_key, on_day_cmp, IsOnDay, OnDay};
+ghost use Rattle.ics_listing.specs.DayKeys.{day_key_rank, day_rank_of, after_day_key, on_day_cmp, OnDay};
+ghost use Rattle.ics_series.specs.OnDays.{IsOnDay};
 ghost use Rattle.ics_series.specs.DaySteps.{scope_by, AreMasters};
-ghost use Rattle.ics_series.specs.Entry.{Entry, entry_cmp, key_rank, rank_of};
-ghost use Rattle.ics_series.specs.Listing.{IsListing};
+ghost use Rattle.ics_listing.specs.Entry.{Entry, entry_cmp, key_rank, rank_of};
+ghost use Rattle.ics_listing.specs.Listing.{IsListing};
 ghost use Rattle.ics_series.specs.Meets.{IsListed, IsToCome};
 ghost use Rattle.ics_series.specs.Occurs.{Occurs};
 ghost use Rattle.ics_series.specs.PlacedEvents.{Placed};
 ghost use Rattle.ics_series.specs.Sources.{AreSources};
-ghost use Rattle.ics_series.specs.Tokens.{IsDayKey, IsKey};
+ghost use Rattle.ics_listing.specs.Tokens.{IsDayKey, IsKey};
 
 use crate::agenda::Agenda;
-use crate::day_key::DayKey;
 use crate::days::Days;
-use crate::feed::Coming;
-use crate::key::Key;
 use crate::prepare::prepare_each;
-use crate::window::Window;
-use ics_event::FileEvents;
+use ics_file::FileEvents;
+use ics_listing::{Coming, DayKey, Key, Window};
 use ics_zone::Display;
 use std::alloc::{AllocError, Global};
 use std::marker::Model;

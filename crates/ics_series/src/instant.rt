@@ -4,10 +4,9 @@ ghost use Rattle.ics_series.specs.Clocks.{clock_of, instant, IsBounded};
 ghost use Rattle.ics_series.specs.FileZones.{clocks_in, is_past, IsTimeOf};
 ghost use Rattle.ics_series.specs.Leeway.{seconds_off};
 
-use crate::start::local_of;
-use crate::window::Window;
 use crate::zones::FileZones;
 use ics_event::Time;
+use ics_listing::{Window, local_of};
 use ics_values::{Local, Moment, Stamp};
 use ics_zone::{Bounds, Place};
 

@@ -2,10 +2,10 @@
 ghost use Rattle.std.specs.Prelude.{◌≡◌, ◌≤ℤ◌, pos};
 ghost use Rattle.ics_event.specs.Event.{longest, IsLength};
 ghost use Rattle.ics_fields.specs.Locals.{midnight};
-ghost use Rattle.ics_series.specs.Clocks.{day_of};
+ghost use Rattle.ics_listing.specs.FileClocks.{day_of};
 ghost use Rattle.ics_series.specs.Finish.{days_lasting, seconds_by, seconds_lasting};
 ghost use Rattle.ics_series.specs.FileZones.{clocks_in, EndsNear, IsEndOf, IsOwnEvent, IsTimeOf};
-ghost use Rattle.ics_series.specs.WindowBounds.{lasts_most};
+ghost use Rattle.ics_listing.specs.WindowBounds.{lasts_most};
 
 use crate::instant::instant;
 use crate::zones::FileZones;

@@ -1,13 +1,7 @@
 //! Laws of the definitions. Each is the contract of a function that has no other purpose.
-ghost use Rattle.std.specs.Prelude.{◌≡◌};
-ghost use Rattle.ics_series.specs.Entry.{key_rank, rank_cmp};
-ghost use Rattle.ics_series.specs.Laws.{AddedFiles, EachStart, ListingAfter, ListingBehind, ListingMerged, MostInDays, MostOfMasters, NoneExcluded, OneListing};
+ghost use Rattle.ics_series.specs.Laws.{AddedFiles, EachStart, ListingAfter, ListingBehind, MostInDays, MostOfMasters, NoneExcluded, OneListing};
 ghost use Rattle.ics_series.specs.Laws.{OneRecurrence, OneStart, OneVersion, OrderOfFiles, RawCounted, StartsByUntil};
-ghost use Rattle.ics_series.specs.Tokens.{OneSpelling};
 ghost use Rattle.ics_series.specs.WindowLaws.{ListingWithin, ListingsJoin, ListsStarts, ListsUnderWay};
-ghost use Rattle.ics_series.specs.declared.key.Key.{Key};
-
-use crate::key::Key;
 
 /// A window of a folder has one listing at most.
 pub fn one_listing()
@@ -22,12 +16,6 @@ pub fn listing_after()
 /// After the key of one of its entries a listing has exactly the entries that follow that one.
 pub fn listing_behind()
     ensures { ListingBehind }
-{}
-
-/// The merge of rising lists is the listing of their entries. If several lists have a key, the entry of
-/// the first of them counts.
-pub fn listing_merged()
-    ensures { ListingMerged }
 {}
 
 /// Files that share no UID with those of a folder add exactly their own occurrences to each window.
@@ -92,16 +80,6 @@ pub fn one_start()
 /// No occurrence starts where an EXDATE removes a start.
 pub fn none_excluded()
     ensures { NoneExcluded }
-{}
-
-/// Keys have the order of the occurrences of a listing.
-pub fn keys_as_listed()
-    ensures { (a b : Key) → ⟦<Key as Ord>⟧.cmp a b ≡ rank_cmp (key_rank a) (key_rank b) }
-{}
-
-/// A key has one token, and no two keys have the same.
-pub fn one_spelling()
-    ensures { OneSpelling }
 {}
 
 /// If what began before a window is left out, exactly the occurrences that start in the window are listed.

@@ -6,10 +6,9 @@ ghost use Rattle.ics_series.specs.Starts.{given_by};
 ghost use Rattle.ics_series.specs.FileZones.{clocks_in, IsOwnEvent};
 
 use crate::instant::{instant, is_past};
-use crate::start::{Start, StartSource, date_of, local_of, time_at, time_of};
-use crate::window::Window;
 use crate::zones::FileZones;
 use ics_event::{Event, Rdate, Time};
+use ics_listing::{Start, StartSource, Window, date_of, local_of, time_at, time_of};
 use ics_values::{Local, Moment, Stamp};
 use std::alloc::AllocError;
 

@@ -1,82 +1,38 @@
-//! One occurrence of an event.
-ghost use Rattle.std.specs.Prelude.{◌≡◌, ◌<ℤ◌, ◌≤ℤ◌};
-ghost use Rattle.ics_series.specs.WindowBounds.{occurrence_first, occurrence_end};
+//! The occurrence that a start gives.
+ghost use Rattle.std.specs.Prelude.{◌≡◌};
+ghost use Rattle.std.specs.Option.{option_map};
+ghost use Rattle.ics_listing.specs.Entry.{entry_of};
+ghost use Rattle.ics_series.specs.Found.{met_by, IsStartIn};
+ghost use Rattle.ics_series.specs.FileZones.{clocks_in, IsOwnEvent};
 
 use crate::finish::finish;
-use crate::start::Start;
-use crate::window::Window;
 use crate::zones::FileZones;
 use ics_event::Event;
-use ics_values::Moment;
-use std::cmp::Ordering;
+use ics_listing::{Occurrence, Start, Window};
 
-/// One occurrence of an event (RFC 5545, section 3.8.4.4).
-///
-/// It begins on or after 0000-12-30 and ends before the year 9950, in UTC.
-#[derive(Clone, Copy)]
-pub struct Occurrence<'a> {
-    pub start: Moment,
-    pub finish: Moment,
-    /// The instant that identifies it among the occurrences of its UID.
-    pub recurrence: Moment,
-    pub event: &'a Event,
-    pub ghost not_early: { occurrence_first ≤ℤ start },
-    pub ghost forward: { start ≤ℤ finish },
-    pub ghost not_late: { finish <ℤ occurrence_end },
-}
-
-impl<'a> Occurrence<'a> {
-    ghost use Rattle.std.specs.Option.{option_map};
-    ghost use Rattle.ics_series.specs.Entry.{entry_cmp, entry_of};
-    ghost use Rattle.ics_series.specs.Found.{met_by, IsStartIn};
-    ghost use Rattle.ics_series.specs.Inner.Uids.{IsUidOrder};
-    ghost use Rattle.ics_series.specs.FileZones.{clocks_in, IsOwnEvent};
-
-    // The occurrence with a start, if it meets the window.
-    pub(crate) fn within(
-        zones: FileZones<'_>,
-        event: &'a Event,
-        start: Start,
-        window: &Window,
-    ) -> Option<Occurrence<'a>>
-        requires event { IsOwnEvent zones event.now }
-        requires start { IsStartIn zones start }
-        ensures { option_map entry_of result ≡ met_by (clocks_in zones.entry) window.now event.entry.now start }
-    {
-        if start.moment >= window.to {
-            return None;
-        }
-        let occurrence = Occurrence {
-            start: start.moment,
-            finish: finish(zones, event, start),
-            recurrence: start.moment,
-            event,
-        };
-        if window.is_met(&occurrence) {
-            Some(occurrence)
-        } else {
-            None
-        }
+/// The occurrence with a start, if it meets the window.
+pub(crate) fn met_by<'a>(
+    zones: FileZones<'_>,
+    event: &'a Event,
+    start: Start,
+    window: &Window,
+) -> Option<Occurrence<'a>>
+    requires event { IsOwnEvent zones event.now }
+    requires start { IsStartIn zones start }
+    ensures { option_map entry_of result ≡ met_by (clocks_in zones.entry) window.now event.entry.now start }
+{
+    if start.moment >= window.to {
+        return None;
     }
-
-    // By start, then by the bytes of the UID, then by recurrence. The order of the UIDs may be known.
-    pub(crate) fn compare(
-        a: &Occurrence<'_>,
-        b: &Occurrence<'_>,
-        uids: Option<Ordering>,
-    ) -> Ordering
-        requires { IsUidOrder uids (entry_of a.now) (entry_of b.now) }
-        ensures { result ≡ entry_cmp (entry_of a.now) (entry_of b.now) }
-    {
-        let (one, other) = (a.event, b.event);
-        match (a.start.cmp(&b.start), uids) {
-            (Ordering::Equal, Some(order)) => order.then(a.recurrence.cmp(&b.recurrence)),
-            (Ordering::Equal, None) => one
-                .uid
-                .as_slice()
-                .cmp(other.uid.as_slice())
-                .then(a.recurrence.cmp(&b.recurrence)),
-            (order, _) => order,
-        }
+    let occurrence = Occurrence {
+        start: start.moment,
+        finish: finish(zones, event, start),
+        recurrence: start.moment,
+        event,
+    };
+    if window.is_met(&occurrence) {
+        Some(occurrence)
+    } else {
+        None
     }
 }

@@ -3,11 +3,10 @@ ghost use Rattle.std.specs.Prelude.{◌≡◌, IsTrue};
 ghost use Rattle.ics_fields.specs.Days.{IsDayNumber};
 ghost use Rattle.ics_series.specs.Clocks.{display_clock};
 ghost use Rattle.ics_series.specs.OnDays.{is_on};
-ghost use Rattle.ics_series.specs.Entry.{entry_of};
+ghost use Rattle.ics_listing.specs.Entry.{entry_of};
 
-use crate::near_day::date_at;
-use crate::occurrence::Occurrence;
-use crate::window::Window;
+use crate::date::date_at;
+use ics_listing::{Occurrence, Window};
 use ics_zone::Display;
 
 /// Whether a day is one of those of an occurrence in a window. They begin with that of the later of its

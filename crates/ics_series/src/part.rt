@@ -1,9 +1,8 @@
 //! The feeds that an agenda merges.
-use crate::feed::{Begins, Coming, Feed};
-use crate::holding::Holding;
-use crate::occurrence::Occurrence;
+
 use crate::series::Series;
 use crate::singles::Singles;
+use ics_listing::{Begins, Coming, Feed, Holding, Occurrence};
 use ics_values::Moment;
 use std::alloc::AllocError;
 

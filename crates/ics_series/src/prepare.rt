@@ -2,10 +2,10 @@
 ghost use Rattle.std.specs.Prelude.{◌≡◌};
 
 use crate::singles::is_single;
-use crate::start::local_of;
-use crate::window::Window;
-use ics_event::{Event, FileEvents, Length};
+use ics_event::{Event, Length};
 use ics_fields::Until;
+use ics_file::FileEvents;
+use ics_listing::{Window, local_of};
 use ics_values::Moment;
 use ics_zone::Zone;
 

@@ -1,35 +1,35 @@
 //! The occurrences of one event that meet a window, found one by one.
 ghost use Rattle.std.specs.Prelude.{◌≡◌, ◌≤ℤ◌, slice_get, All, IfOk, List, MatchOption, None, OnOk};
 ghost use Rattle.ics_fields.specs.Locals.{number};
-ghost use Rattle.ics_series.specs.Entry.{entry_cmp};
+ghost use Rattle.ics_listing.specs.Entry.{entry_cmp};
 ghost use Rattle.ics_series.specs.EventLaws.{own-event-prop};
 ghost use Rattle.ics_series.specs.Exclusions.{AreExclusions};
-ghost use Rattle.ics_series.specs.Found.{moment_cmp, IsStartIn};
-ghost use Rattle.ics_series.specs.Listing.{IsIn};
+ghost use Rattle.ics_listing.specs.StartOrder.{moment_cmp};
+ghost use Rattle.ics_series.specs.Found.{IsStartIn};
+ghost use Rattle.ics_listing.specs.Listing.{IsIn};
 ghost use Rattle.ics_series.specs.Inner.Marks.{IsBegun, IsMarkOf};
 ghost use Rattle.ics_series.specs.Inner.Quiet.{AreQuiet};
-ghost use Rattle.ics_series.specs.Merged.{cut};
-ghost use Rattle.ics_series.specs.Rising.{Rises, Rises-prop};
+ghost use Rattle.ics_listing.specs.Merged.{cut};
+ghost use Rattle.ics_listing.specs.Rising.{Rises, Rises-prop};
 ghost use Rattle.ics_series.specs.RuleFeed.{starts_left};
 ghost use Rattle.ics_series.specs.SeriesLaws.{own-rule-prop, ruled-prop, starts-in-prop, taken-out-prop};
-ghost use Rattle.ics_series.specs.SeriesStarts.{first_asked, first_of, given_of, left, listed_apart, listed_left, rule_asked, rule_left, AreStartsIn};
+ghost use Rattle.ics_series.specs.SeriesStarts.{first_asked, first_of, given_of, left, listed_apart, rule_asked, rule_left, AreStartsIn};
+ghost use Rattle.ics_listing.specs.KnownStarts.{listed_left};
 ghost use Rattle.ics_series.specs.SeriesStarts.{AreSkipped, HasOwnRule, HasRuled, HasSameRule, IsFirstOf, IsReady, IsRuleFrom};
 ghost use Rattle.ics_series.specs.FileZones.{clocks_in, IsOwnEvent};
-ghost use Rattle.ics_series.specs.declared.start.Start.{Start};
+ghost use Rattle.ics_listing.specs.declared.start.Start.{Start};
 
 use crate::exclusion::Exclusions;
-use crate::feed::{Begins, Coming, Feed};
 use crate::instant::bounds;
+use crate::kind::kind_of;
 use crate::listed::{listed_again, push_listed};
-use crate::listed_starts::ListedStarts;
 use crate::mark::{Mark, counted};
-use crate::occurrence::Occurrence;
+use crate::occurrence::met_by;
 use crate::rule_starts::RuleStarts;
-use crate::start::{Start, kind_of, local_of};
 use crate::starts::{earliest, first_nearby, seconds_back, start_at};
-use crate::window::Window;
 use crate::zones::FileZones;
 use ics_event::Event;
+use ics_listing::{Begins, Coming, Feed, ListedStarts, Occurrence, Start, Window, local_of};
 use ics_rule::Rule;
 use ics_values::{Moment, Stamp};
 use std::alloc::{AllocError, Global};
@@ -203,9 +203,9 @@ fn rule_quiet(rule: &Option<RuleStarts<'_>>) -> Moment
 impl<'a> Series<'a> {
     ghost use Rattle.std.specs.Prelude.{◌≤◌, [], false, length, IfOk, OnErr};
     ghost use Rattle.std.specs.Option.{option_map};
-    ghost use Rattle.ics_series.specs.Entry.{Entry, entry_of};
+    ghost use Rattle.ics_listing.specs.Entry.{Entry, entry_of};
     ghost use Rattle.ics_series.specs.Inner.Quiet.{IsQuietTo};
-    ghost use Rattle.ics_series.specs.Listing.{IsListing};
+    ghost use Rattle.ics_listing.specs.Listing.{IsListing};
     ghost use Rattle.ics_series.specs.SeriesFeed.{series_left, series_near, series_of, series_sources, source_of, IsSameSeries};
     ghost use Rattle.ics_series.specs.SeriesStarts.{wanted_by, IsSeriesMet, IsTaken};
 
@@ -327,7 +327,7 @@ impl<'a> Series<'a> {
             return None;
         }
         let (zones, event) = (self.zones, self.event);
-        let occurrence = Occurrence::within(zones, event, start, &self.window)?;
+        let occurrence = met_by(zones, event, start, &self.window)?;
         if self.exclusions.has(zones, event.start, occurrence.start) {
             None
         } else {

@@ -3,15 +3,13 @@ ghost use Rattle.std.specs.Prelude.{◌≡◌, ◌<ℤ◌};
 ghost use Rattle.ics_series.specs.Clocks.{instant};
 ghost use Rattle.ics_series.specs.EventLaws.{own-event-prop};
 ghost use Rattle.ics_series.specs.FileZones.{clocks_in, IsOwnEvent};
-ghost use Rattle.ics_series.specs.WindowBounds.{window_last};
+ghost use Rattle.ics_listing.specs.WindowBounds.{window_last};
 
 use crate::finish::finish;
 use crate::instant::instant;
-use crate::occurrence::Occurrence;
-use crate::start::{Start, StartSource, local_of};
-use crate::window::Window;
 use crate::zones::FileZones;
 use ics_event::{Event, Rdate};
+use ics_listing::{Occurrence, Start, StartSource, Window, local_of};
 use ics_values::Moment;
 use std::cmp::Ordering;
 
@@ -31,9 +29,9 @@ pub(crate) struct Single<'a> {
 impl<'a> Single<'a> {
     ghost use Rattle.std.specs.Prelude.{map};
     ghost use Rattle.std.specs.Option.{option_map};
-    ghost use Rattle.ics_event.specs.Event.{IsEventOf};
+    ghost use Rattle.ics_file.specs.File.{IsEventOf};
     ghost use Rattle.ics_zone.specs.ZoneSaid.{zone_said};
-    ghost use Rattle.ics_series.specs.Entry.{entry_cmp, entry_of};
+    ghost use Rattle.ics_listing.specs.Entry.{entry_cmp, entry_of};
     ghost use Rattle.ics_series.specs.Singles.{begun_first, single_entry};
 
     // The occurrence of an event at its DTSTART, if that is before the window's end. Its recurrence is

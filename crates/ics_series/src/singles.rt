@@ -5,25 +5,23 @@ ghost use Rattle.std.specs.List.Sorted.{IsSorted};
 ghost use Rattle.std.specs.Option.{option_map};
 ghost use Rattle.std.specs.Ordering.{on};
 ghost use Rattle.std.specs.Vec.Iter.{into_iter_items};
-ghost use Rattle.ics_event.specs.Event.{said_by};
+ghost use Rattle.ics_file.specs.File.{said_by};
 ghost use Rattle.ics_series.specs.Clocks.{display_clock};
-ghost use Rattle.ics_series.specs.Entry.{entry_cmp, entry_of, key_rank};
-ghost use Rattle.ics_series.specs.Listing.{IsListing};
-ghost use Rattle.ics_series.specs.Rising.{Rises, Rises-prop};
+ghost use Rattle.ics_listing.specs.Entry.{entry_cmp, entry_of, key_rank};
+ghost use Rattle.ics_listing.specs.Listing.{IsListing};
+ghost use Rattle.ics_listing.specs.Rising.{Rises, Rises-prop};
 ghost use Rattle.ics_series.specs.Singles.{is_single, is_to_come, single_at, single_entry, AreSingle, AreSingle-prop, IsSingleToCome};
 ghost use Rattle.ics_series.specs.Inner.Spans.{AreSpans};
 ghost use Rattle.ics_series.specs.Spots.{event_at};
 ghost use Rattle.ics_series.specs.Versions.{is_override, seen, subject_cmp, subject_seen, AreChosen};
 
-use crate::agenda::{is_after, is_kept};
-use crate::feed::{Begins, Coming, Feed};
-use crate::key::Key;
-use crate::occurrence::Occurrence;
+use crate::agenda::is_kept;
 use crate::single::Single;
 use crate::span::{Span, is_out};
 use crate::version::Version;
-use crate::window::Window;
-use ics_event::{Event, FileEvents};
+use ics_event::Event;
+use ics_file::FileEvents;
+use ics_listing::{Begins, Coming, Feed, Key, Occurrence, Window, is_after};
 use ics_values::Moment;
 use ics_zone::Display;
 use std::alloc::{AllocError, Global};
@@ -71,7 +69,7 @@ impl<'a> Singles<'a> {
 impl<'a> Coming for Singles<'a> {
     ghost use Rattle.std.specs.Prelude.{true, [], ◌∷◌};
     ghost use Rattle.ics_series.specs.Singles.{single-prop};
-    ghost use Rattle.ics_series.specs.Sources.Source.{Once};
+    ghost use Rattle.ics_listing.specs.FeedSources.Source.{Once};
 
     ghost coming = { λ singles. map single_entry (into_iter_items singles.rest) };
 

@@ -1,6 +1,6 @@
 //! When the events of a folder are.
 ghost use Rattle.std.specs.Prelude.{◌≡◌, map, IfOk, IsSome};
-ghost use Rattle.ics_event.specs.Event.{said_by};
+ghost use Rattle.ics_file.specs.File.{said_by};
 ghost use Rattle.ics_series.specs.Clocks.{display_clock};
 ghost use Rattle.ics_series.specs.Inner.Spans.{can_meet, is_out, span_at, IsSpanPut};
 ghost use Rattle.ics_series.specs.Spots.{event_at};
@@ -9,8 +9,8 @@ ghost use Rattle.ics_series.specs.Versions.{seen, AreChosen};
 use crate::single::Single;
 use crate::singles::is_single;
 use crate::version::Version;
-use crate::window::Window;
-use ics_event::FileEvents;
+use ics_file::FileEvents;
+use ics_listing::Window;
 use ics_values::Moment;
 use ics_zone::Display;
 use std::alloc::{AllocError, Global};

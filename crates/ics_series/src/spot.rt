@@ -1,9 +1,10 @@
 //! The place of an event in a folder.
 ghost use Rattle.std.specs.Prelude.{◌≡◌, Some, IsSome, map};
-ghost use Rattle.ics_event.specs.Event.{said_by, IsEventOf};
+ghost use Rattle.ics_file.specs.File.{said_by, IsEventOf};
 
 use crate::zones::FileZones;
-use ics_event::{Event, FileEvents};
+use ics_event::Event;
+use ics_file::FileEvents;
 use ics_zone::Display;
 
 /// The number of an event's file, and the event's place in that file.

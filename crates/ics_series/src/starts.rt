@@ -1,26 +1,24 @@
 //! The starts of an event by which it can meet a window.
-ghost use Rattle.std.specs.Prelude.{◌≡◌, ◌<ℤ◌, ◌≤ℤ◌, ◌+ℤ◌, ◌-ℤ◌, pos, None, All, IfOk};
+ghost use Rattle.std.specs.Prelude.{◌≡◌, ◌<ℤ◌, ◌≤ℤ◌, ◌+ℤ◌, ◌-ℤ◌, pos, All};
 ghost use Rattle.std.specs.Int.{int_max, int_min};
 ghost use Rattle.jiff_core.specs.Calendar.{IsWithin};
 ghost use Rattle.ics_fields.specs.Days.{IsDayNumber};
 ghost use Rattle.ics_fields.specs.Locals.{midnight, local_seconds, whole_days, year_seconds};
-ghost use Rattle.ics_series.specs.Found.{earliest, first_met, firsts_after, is_span_met, start_at, IsStartIn};
+ghost use Rattle.ics_series.specs.Found.{earliest, first_met, is_span_met, start_at, IsStartIn};
 ghost use Rattle.ics_zone.specs.Observances.{is_until};
 ghost use Rattle.ics_series.specs.Leeway.{seconds_late, seconds_off};
 ghost use Rattle.ics_series.specs.RuleStarts.{ends_at};
-ghost use Rattle.ics_series.specs.Starts.{local_of, time_at};
+ghost use Rattle.ics_listing.specs.StartTimes.{local_of, time_at};
 ghost use Rattle.ics_series.specs.FileZones.{clocks_in, IsOwnEvent, IsTimeOf};
-ghost use Rattle.ics_series.specs.WindowBounds.{lasts_most, occurrence_first, window_last};
+ghost use Rattle.ics_listing.specs.WindowBounds.{lasts_most, occurrence_first, window_last};
 
 use crate::instant::instant;
 use crate::lasting::seconds_lasting;
-use crate::occurrence::Occurrence;
-use crate::start::{Start, StartSource, local_of, time_at};
-use crate::window::Window;
+use crate::occurrence::met_by;
 use crate::zones::FileZones;
 use ics_event::{Event, Length, Rdate};
+use ics_listing::{Start, StartSource, Window, local_of, time_at};
 use ics_values::{Local, Moment, Stamp};
-use std::alloc::{AllocError, Global};
 
 const FOUR_DAYS: i64 = 4 * 86_400;
 
@@ -83,7 +81,7 @@ fn is_span_met(zones: FileZones<'_>, event: &Event, start: Start, window: &Windo
 {
     match start.given {
         Rdate::At(_) => false,
-        Rdate::Span(_, _) => Occurrence::within(zones, event, start, window).is_some(),
+        Rdate::Span(_, _) => met_by(zones, event, start, window).is_some(),
     }
 }
 
@@ -180,20 +178,4 @@ pub(crate) fn end_nearby(window: &Window, until: Option<Moment>, start: Stamp, m
     // DTSTART counts even if it is after UNTIL.
     let local = (last + most).max(last.min(first.seconds()));
     Local::of_seconds(local).day + 1
-}
-
-// The first of each run of starts at one instant.
-pub(crate) fn firsts(alloc: Global, starts: &[Start]) -> Result<Vec<Start>, AllocError>
-    ensures { IfOk result (λ firsts. firsts.items ≡ firsts_after None starts.now) }
-{
-    let mut firsts = Vec::new(alloc);
-    let mut last = None;
-    for start in starts {
-        if last == Some(start.moment) {
-            continue;
-        }
-        firsts.push(*start)?;
-        last = Some(start.moment);
-    }
-    Ok(firsts)
 }

@@ -1,7 +1,7 @@
 //! The versions of the events of a folder, and their order.
 ghost use Rattle.std.specs.Prelude.{◌≡◌, ◌++◌, map, slice_index_or, IfOk};
 ghost use Rattle.hex.specs.Hex.{IsBytes};
-ghost use Rattle.ics_event.specs.Event.{said_by, AreEventsOf, IsEventOf};
+ghost use Rattle.ics_file.specs.File.{said_by, AreEventsOf, IsEventOf};
 ghost use Rattle.ics_series.specs.Chosen.{overridden};
 ghost use Rattle.ics_series.specs.Clocks.{display_clock};
 ghost use Rattle.ics_series.specs.Versions.{label_by, label_cmp, label_of, placed_from, placed_in, seen};
@@ -14,7 +14,8 @@ use crate::instant::instant;
 use crate::spot::Spot;
 use crate::version::{Subject, Version};
 use crate::zones::FileZones;
-use ics_event::{Event, FileEvents};
+use ics_event::Event;
+use ics_file::FileEvents;
 use ics_values::Moment;
 use ics_zone::Display;
 use std::alloc::{AllocError, Global};

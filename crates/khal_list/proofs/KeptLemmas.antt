@@ -5,14 +5,15 @@ use Rattle.std.specs.List.{filter, list_any}
 use Rattle.std.specs.Option.{option_map}
 use Rattle.std.proofs.lemmas.Bool.{or_right}
 use Rattle.std.proofs.lemmas.List.{length-map, take-map}
-use Rattle.ics_event.specs.Event.{FileSaid}
-use Rattle.ics_event.specs.Kept.{KeptTexts, kept_said}
-use Rattle.ics_series.specs.After.{after_key}
+use Rattle.ics_file.specs.File.{FileSaid}
+use Rattle.ics_event.specs.Kept.{KeptTexts}
+use Rattle.ics_file.specs.Kept.{kept_said}
+use Rattle.ics_listing.specs.After.{after_key}
 use Rattle.ics_series.specs.Clocks.{display_clock}
-use Rattle.ics_series.specs.Entry.{Entry, Rank, key_rank, rank_of}
-use Rattle.ics_series.specs.Listing.{IsIn}
-use Rattle.ics_series.specs.OnDays.{DayRank, OnDay, after_day_key, day_key_rank, day_rank_of, is_day_after}
-use Rattle.ics_series.specs.Tokens.{day_spelling, spelling}
+use Rattle.ics_listing.specs.Entry.{Entry, Rank, key_rank, rank_of}
+use Rattle.ics_listing.specs.Listing.{IsIn}
+use Rattle.ics_listing.specs.DayKeys.{DayRank, OnDay, after_day_key, day_key_rank, day_rank_of, is_day_after}
+use Rattle.ics_listing.specs.Tokens.{day_spelling, spelling}
 use Rattle.ics_series.proofs.KeptLemmas.{day_listing-kept, kept_entry, kept_on, listing-kept}
 use Rattle.ics_series.proofs.VersionLemmas.{map-in}
 use Rattle.khal_words.specs.declared.field.EntryField.{EntryField}

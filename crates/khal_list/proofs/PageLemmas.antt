@@ -7,13 +7,14 @@ use Rattle.std.proofs.lemmas.Bool.{ltb-false, ltb-true}
 use Rattle.std.proofs.lemmas.Cmp.{tied_itself}
 use Rattle.std.proofs.lemmas.List.{take_all, take-append-drop, length-drop, length-take-le}
 use Rattle.std.specs.declared.cmp.Ordering.TheVariants.{Less, Greater}
-use Rattle.ics_event.specs.Event.{FileSaid}
-use Rattle.ics_series.specs.After.{after_key}
+use Rattle.ics_file.specs.File.{FileSaid}
+use Rattle.ics_listing.specs.After.{after_key}
 use Rattle.ics_series.specs.Clocks.{display_clock}
-use Rattle.ics_series.specs.Entry.{Entry, entry_cmp, key_rank, rank_cmp, rank_of}
-use Rattle.ics_series.specs.Inner.EntryLaws.{entry_total}
-use Rattle.ics_series.specs.OnDays.{DayListingBehind, after_day_key, day_rank_of, OnDay}
-use Rattle.ics_series.specs.Rising.{IsBefore, Rises}
+use Rattle.ics_listing.specs.Entry.{Entry, entry_cmp, key_rank, rank_cmp, rank_of}
+use Rattle.ics_listing.specs.Inner.EntryLaws.{entry_total}
+use Rattle.ics_series.specs.OnDays.{DayListingBehind}
+use Rattle.ics_listing.specs.DayKeys.{after_day_key, day_rank_of, OnDay}
+use Rattle.ics_listing.specs.Rising.{IsBefore, Rises}
 use Rattle.khal_list.specs.declared.request.Request.{Request}
 use Rattle.khal_list.specs.Headline.{IsDayListingOf, IsListingOf}
 use Rattle.khal_list.specs.Listed.{asked_after, first_of, is_cut, key_by, last_by}

@@ -7,8 +7,8 @@ use Rattle.std.specs.Option.{option_map}
 use Rattle.std.proofs.Math.Seq.{take-append-add}
 use Rattle.std.proofs.lemmas.Bool.{lt-ltb}
 use Rattle.std.proofs.lemmas.List.{length-drop, take-append-drop}
-use Rattle.ics_series.specs.Entry.{Entry}
-use Rattle.ics_series.specs.OnDays.{DayRank, day_rank_of, OnDay}
+use Rattle.ics_listing.specs.Entry.{Entry}
+use Rattle.ics_listing.specs.DayKeys.{DayRank, day_rank_of, OnDay}
 use Rattle.khal_list.specs.Drawn.{DrewAhead}
 use Rattle.khal_ports.specs.Growth.{TookFront, TookPart}
 use Rattle.khal_list.specs.Listed.{day_key_on, first_of, is_cut, last_by}

@@ -6,9 +6,9 @@ use Rattle.std.specs.Option.{option_map}
 use Rattle.std.specs.Result.{IsErr}
 use Rattle.std.proofs.lemmas.List.{length-map, map-append, take-map, take_at}
 use Rattle.std.proofs.lemmas.Result.{IfOk-from_err, IfOk-weaker}
-use Rattle.ics_series.specs.OnDays.{day_key_rank, day_rank_of, DayRank, OnDay}
-use Rattle.ics_series.specs.declared.day_key.DayKey.{DayKey}
-use Rattle.ics_series.specs.Entry.{Entry, key_rank, rank_of}
+use Rattle.ics_listing.specs.DayKeys.{day_key_rank, day_rank_of, DayRank, OnDay}
+use Rattle.ics_listing.specs.declared.day_key.DayKey.{DayKey}
+use Rattle.ics_listing.specs.Entry.{Entry, key_rank, rank_of}
 use Rattle.khal_ports.specs.declared.fault.RunFault.{RunFault}
 use Rattle.khal_list.specs.declared.request.Request.{Request}
 use Rattle.khal_list.specs.Drawn.{DrewAhead, Puts}

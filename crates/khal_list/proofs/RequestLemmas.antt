@@ -5,14 +5,14 @@ use Rattle.std.specs.Result.{IsErrAnd}
 use Rattle.std.proofs.lemmas.Result.{err_from_is_err_and}
 use Rattle.clap.specs.Words.{Text}
 use Rattle.ics_zone.specs.ZoneSaid.{ZoneSaid}
-use Rattle.ics_series.specs.OnDays.{day_key_rank, DayRank}
-use Rattle.ics_series.specs.Entry.{key_rank, Rank}
-use Rattle.ics_series.specs.Tokens.{day_spelling, spelling}
-use Rattle.ics_series.specs.declared.day_key.DayKey.{DayKey}
-use Rattle.ics_series.specs.declared.key.Key.{Key}
-use Rattle.ics_series.specs.declared.token.TokenFault.{TokenFault}
-use Rattle.ics_series.specs.declared.token.TokenFault.TheVariants as token
-use Rattle.ics_series.specs.declared.window.Window.{Window}
+use Rattle.ics_listing.specs.DayKeys.{day_key_rank, DayRank}
+use Rattle.ics_listing.specs.Entry.{key_rank, Rank}
+use Rattle.ics_listing.specs.Tokens.{day_spelling, spelling}
+use Rattle.ics_listing.specs.declared.day_key.DayKey.{DayKey}
+use Rattle.ics_listing.specs.declared.key.Key.{Key}
+use Rattle.ics_listing.specs.declared.token.TokenFault.{TokenFault}
+use Rattle.ics_listing.specs.declared.token.TokenFault.TheVariants as token
+use Rattle.ics_listing.specs.declared.window.Window.{Window}
 use Rattle.khal_words.specs.Entries.{Entries, day_format_text, format_text, span_of}
 use Rattle.khal_words.specs.Formats.{day_name, entry_name, IsFormat}
 use Rattle.khal_list.specs.RequestFaults.{format_fault, token_fault}

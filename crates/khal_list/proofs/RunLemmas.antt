@@ -4,17 +4,19 @@ use Rattle.std.specs.Prelude.{◌↔◌}
 use Rattle.std.specs.Io.KnownBytes.{Appends, Keeps}
 use Rattle.std.specs.Option.{option_copied, option_map}
 use denote.Ref.{Bor}
-use Rattle.ics_event.specs.Event.{FileSaid}
-use Rattle.ics_event.specs.Kept.{KeptTexts, kept_said}
+use Rattle.ics_file.specs.File.{FileSaid}
+use Rattle.ics_event.specs.Kept.{KeptTexts}
+use Rattle.ics_file.specs.Kept.{kept_said}
 use Rattle.ics_zone.specs.declared.display.Display.{Display}
-use Rattle.ics_series.specs.After.{after_key}
+use Rattle.ics_listing.specs.After.{after_key}
 use Rattle.ics_series.specs.Clocks.{display_clock}
-use Rattle.ics_series.specs.OnDays.{day_key_rank, day_rank_of, after_day_key, on_day_cmp, IsOnDay, OnDay}
-use Rattle.ics_series.specs.Tokens.{day_spelling, IsDayKey, IsKey, spelling}
-use Rattle.ics_series.specs.Entry.{Entry, entry_cmp, key_rank, rank_of}
-use Rattle.ics_series.specs.declared.day_key.DayKey.{DayKey}
-use Rattle.ics_series.specs.declared.key.Key.{Key}
-use Rattle.ics_series.specs.Listing.{IsListing}
+use Rattle.ics_listing.specs.DayKeys.{day_key_rank, day_rank_of, after_day_key, on_day_cmp, OnDay}
+use Rattle.ics_series.specs.OnDays.{IsOnDay}
+use Rattle.ics_listing.specs.Tokens.{day_spelling, IsDayKey, IsKey, spelling}
+use Rattle.ics_listing.specs.Entry.{Entry, entry_cmp, key_rank, rank_of}
+use Rattle.ics_listing.specs.declared.day_key.DayKey.{DayKey}
+use Rattle.ics_listing.specs.declared.key.Key.{Key}
+use Rattle.ics_listing.specs.Listing.{IsListing}
 use Rattle.ics_series.specs.Meets.{IsListed}
 use Rattle.ics_series.specs.Occurs.{Occurs}
 use Rattle.khal_list.specs.declared.every_day.EveryDay.{EveryDay}

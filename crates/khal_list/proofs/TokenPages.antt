@@ -6,13 +6,14 @@ use Rattle.std.proofs.lemmas.Cmp.{int_eq_equiv}
 use Rattle.clap.specs.Words.{Text}
 use Rattle.ics_zone.specs.ZoneSaid.{ZoneSaid}
 use Rattle.ics_series.specs.Clocks.{display_clock}
-use Rattle.ics_series.specs.Listing.{IsIn}
-use Rattle.ics_series.specs.OnDays.{day_key_rank, day_rank_of, DayRank, DayListingBehind, OnDay, after_day_key}
-use Rattle.ics_series.specs.Tokens.{day_spelling, IsDayKey, OneDaySpelling, OneSpelling, IsKey, spelling}
-use Rattle.ics_series.specs.Entry.{Entry, Rank, key_rank, rank_of}
-use Rattle.ics_series.specs.declared.day_key.DayKey.{DayKey}
-use Rattle.ics_series.specs.declared.window.Window.{Window}
-use Rattle.ics_series.specs.declared.key.Key.{Key}
+use Rattle.ics_listing.specs.Listing.{IsIn}
+use Rattle.ics_listing.specs.DayKeys.{day_key_rank, day_rank_of, DayRank, OnDay, after_day_key}
+use Rattle.ics_series.specs.OnDays.{DayListingBehind}
+use Rattle.ics_listing.specs.Tokens.{day_spelling, IsDayKey, OneDaySpelling, OneSpelling, IsKey, spelling}
+use Rattle.ics_listing.specs.Entry.{Entry, Rank, key_rank, rank_of}
+use Rattle.ics_listing.specs.declared.day_key.DayKey.{DayKey}
+use Rattle.ics_listing.specs.declared.window.Window.{Window}
+use Rattle.ics_listing.specs.declared.key.Key.{Key}
 use Rattle.khal_list.specs.Pages.{DayGoesOn, DayLineGoesOn, DayTokenGoesOn, LastDayLineShows, LastLineShows, LineGoesOn, TextGoesOn, TextSplits}
 use Rattle.khal_list.specs.Pages.{TokenGoesOn, last_day, shown_day_token, shown_token}
 use Rattle.khal_list.specs.RequestOf.{after_text, IsAfterBy, IsDayKeyOf, IsKeyOf}

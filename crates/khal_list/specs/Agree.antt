@@ -5,8 +5,8 @@ use Rattle.std.specs.Option.{option_map}
 use Rattle.clap.specs.Words.{IsAmong, Text}
 use Rattle.clap.specs.declared.error.kind.ErrorKind.{ErrorKind}
 use Rattle.clap.specs.declared.error.kind.ErrorKind.TheVariants.{DisplayHelp}
-use Rattle.ics_series.specs.OnDays.{day_key_rank, DayRank}
-use Rattle.ics_series.specs.Entry.{key_rank}
+use Rattle.ics_listing.specs.DayKeys.{day_key_rank, DayRank}
+use Rattle.ics_listing.specs.Entry.{key_rank}
 use Rattle.ics_zone.specs.ZoneSaid.{display_said}
 use Rattle.khal_words.specs.Entries.{refusal_of}
 use Rattle.khal_list.specs.declared.every_day.EveryDay.{EveryDay}

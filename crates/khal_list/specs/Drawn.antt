@@ -2,8 +2,8 @@
 use Rattle.std.specs.Prelude.{◌≡◌, ◌≢◌, ◌≤◌, ◌++◌, ℕ, List, [], Option, Result, length, IfOk, OnErr, OnOk}
 use Rattle.std.specs.Io.KnownBytes.{Appends}
 use Rattle.std.specs.Option.{option_map}
-use Rattle.ics_series.specs.OnDays.{day_key_rank, OnDay}
-use Rattle.ics_series.specs.declared.day_key.DayKey.{DayKey}
+use Rattle.ics_listing.specs.DayKeys.{day_key_rank, OnDay}
+use Rattle.ics_listing.specs.declared.day_key.DayKey.{DayKey}
 use Rattle.khal_ports.specs.declared.fault.RunFault.{RunFault}
 use Rattle.khal_list.specs.declared.request.Request.{Request}
 use Rattle.khal_ports.specs.Growth.{TookFront}

@@ -2,13 +2,14 @@
 use Rattle.std.specs.Prelude.{◌≡◌, ◌↔◌, ◌⊎◌, ℕ, List, [], ◌∷◌, ◌++◌, Option, Some, None, Any, IsTrue, codes}
 use Rattle.std.specs.Io.KnownBytes.{Appends}
 use Rattle.std.specs.Option.{option_map}
-use Rattle.ics_event.specs.Event.{FileSaid}
+use Rattle.ics_file.specs.File.{FileSaid}
 use Rattle.ics_series.specs.Clocks.{display_clock}
-use Rattle.ics_series.specs.Tokens.{day_spelling, IsDayKey, IsKey, spelling}
-use Rattle.ics_series.specs.Entry.{Entry, entry_cmp, rank_of}
-use Rattle.ics_series.specs.Listing.{IsIn, IsListing}
+use Rattle.ics_listing.specs.Tokens.{day_spelling, IsDayKey, IsKey, spelling}
+use Rattle.ics_listing.specs.Entry.{Entry, entry_cmp, rank_of}
+use Rattle.ics_listing.specs.Listing.{IsIn, IsListing}
 use Rattle.ics_series.specs.Meets.{IsListed}
-use Rattle.ics_series.specs.OnDays.{day_rank_of, on_day_cmp, IsOnDay, OnDay}
+use Rattle.ics_listing.specs.DayKeys.{day_rank_of, on_day_cmp, OnDay}
+use Rattle.ics_series.specs.OnDays.{IsOnDay}
 use Rattle.khal_list.specs.declared.every_day.EveryDay.{EveryDay}
 use Rattle.khal_list.specs.declared.request.Request.{Request}
 use Rattle.khal_reading.specs.declared.status.Status.{Status}

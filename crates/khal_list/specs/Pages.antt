@@ -2,11 +2,11 @@
 use Rattle.std.specs.Prelude.{◌≡◌, ◌+◌, ◌≤◌, ⊤, ℕ, ℤ, true, false, List, [], ◌∷◌, ◌++◌, Option, Some, None, length, if◌then◌else◌}
 use Rattle.std.specs.Option.{option_map}
 use Rattle.ics_zone.specs.ZoneSaid.{ZoneSaid}
-use Rattle.ics_event.specs.Event.{FileSaid}
-use Rattle.ics_series.specs.After.{after_key}
-use Rattle.ics_series.specs.OnDays.{after_day_key, day_key_rank, day_rank_of, OnDay}
-use Rattle.ics_series.specs.Tokens.{day_spelling, spelling}
-use Rattle.ics_series.specs.Entry.{Entry, key_rank, rank_of}
+use Rattle.ics_file.specs.File.{FileSaid}
+use Rattle.ics_listing.specs.After.{after_key}
+use Rattle.ics_listing.specs.DayKeys.{after_day_key, day_key_rank, day_rank_of, OnDay}
+use Rattle.ics_listing.specs.Tokens.{day_spelling, spelling}
+use Rattle.ics_listing.specs.Entry.{Entry, key_rank, rank_of}
 use Rattle.khal_list.specs.declared.every_day.EveryDay.{EveryDay}
 use Rattle.khal_list.specs.declared.request.Request.{Request}
 use Rattle.khal_list.specs.Headline.{HaveDayTokens, HaveTokens, IsDayListingOf, IsListingOf}

@@ -2,8 +2,8 @@
 use Rattle.std.specs.Prelude.{◌≡◌, ◌≢◌, ◌↔◌, ℕ, List, IsTrue, codes}
 use Rattle.clap.specs.declared.error.kind.ErrorKind.{ErrorKind}
 use Rattle.clap.specs.declared.error.kind.ErrorKind.TheVariants.{DisplayHelp, OutOfMemory}
-use Rattle.ics_series.specs.declared.token.TokenFault.{TokenFault}
-use Rattle.ics_series.specs.declared.token.TokenFault.TheVariants as token
+use Rattle.ics_listing.specs.declared.token.TokenFault.{TokenFault}
+use Rattle.ics_listing.specs.declared.token.TokenFault.TheVariants as token
 use Rattle.khal_words.specs.declared.format.FormatFault.{FormatFault}
 use Rattle.khal_words.specs.declared.format.FormatFault.TheVariants as format
 use Rattle.khal_list.specs.declared.request_fault.RequestFault.{RequestFault}

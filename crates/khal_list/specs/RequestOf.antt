@@ -8,12 +8,13 @@ use Rattle.clap.specs.Words.{Text}
 use Rattle.ics_zone.specs.DisplayTexts.{display_of}
 use Rattle.ics_zone.specs.ZoneSaid.{ZoneSaid, display_said}
 use Rattle.ics_series.specs.Clocks.{zone_clock}
-use Rattle.ics_series.specs.OnDays.{day_key_rank, DayRank, date_at}
-use Rattle.ics_series.specs.Tokens.{day_spelling, IsDayKey, IsDayToken, spelling, IsKey, IsToken}
-use Rattle.ics_series.specs.Entry.{key_rank}
-use Rattle.ics_series.specs.declared.day_key.DayKey.{DayKey}
-use Rattle.ics_series.specs.declared.key.Key.{Key}
-use Rattle.ics_series.specs.declared.window.Window.{Window}
+use Rattle.ics_listing.specs.DayKeys.{day_key_rank, DayRank}
+use Rattle.ics_series.specs.OnDays.{date_at}
+use Rattle.ics_listing.specs.Tokens.{day_spelling, IsDayKey, IsDayToken, spelling, IsKey, IsToken}
+use Rattle.ics_listing.specs.Entry.{key_rank}
+use Rattle.ics_listing.specs.declared.day_key.DayKey.{DayKey}
+use Rattle.ics_listing.specs.declared.key.Key.{Key}
+use Rattle.ics_listing.specs.declared.window.Window.{Window}
 use Rattle.khal_words.specs.Formats.{day_name, entry_name, written, IsFormat}
 use Rattle.khal_words.specs.Entries.{Entries, day_format_text, entry, entries_of, format_text, limit_text, entries_text, span_of, zone_file_text}
 use Rattle.khal_words.specs.Entries.{zone_text, zones_text, AreTaken, IsRefused}

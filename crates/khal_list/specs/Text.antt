@@ -8,10 +8,12 @@ use Rattle.std.specs.Ordering.{int_eq}
 use Rattle.ics_values.specs.declared.stamp.Stamp.{Stamp}
 use Rattle.ics_values.specs.declared.stamp.Stamp.TheVariants.{Date, Floating, Utc, Zoned}
 use Rattle.ics_fields.specs.Days.{year_of, month_of, month_day_of, weekday_of, day_index}
-use Rattle.ics_series.specs.Clocks.{Clock, local_at}
-use Rattle.ics_series.specs.Entry.{Entry, rank_of}
-use Rattle.ics_series.specs.OnDays.{on_day, OnDay, date_at, day_rank_of}
-use Rattle.ics_series.specs.Tokens.{day_spelling, spelling}
+use Rattle.ics_listing.specs.FileClocks.{Clock}
+use Rattle.ics_series.specs.Clocks.{local_at}
+use Rattle.ics_listing.specs.Entry.{Entry, rank_of}
+use Rattle.ics_listing.specs.DayKeys.{on_day, OnDay, day_rank_of}
+use Rattle.ics_series.specs.OnDays.{date_at}
+use Rattle.ics_listing.specs.Tokens.{day_spelling, spelling}
 use Rattle.khal_words.specs.declared.field.EntryField.{EntryField}
 use Rattle.khal_words.specs.declared.field.EntryField.TheVariants.{Cell, Title, StartTime, EndTime, StartDate, EndDate, Location, Description, Uid, Cancelled}
 use Rattle.khal_words.specs.declared.field.EntryField.TheVariants.{StartUnix, EndUnix, Token, Url}

@@ -2,7 +2,7 @@
 ghost use Rattle.std.specs.Prelude.{◌≡◌, List, IfOk, IfSome, OnErr, map};
 ghost use Rattle.ics_fields.specs.Days.{IsDayNumber};
 ghost use Rattle.ics_series.specs.Ahead.{IsAhead};
-ghost use Rattle.ics_series.specs.OnDays.{GivesOnDay, OnDay};
+ghost use Rattle.ics_listing.specs.DayKeys.{GivesOnDay, OnDay};
 ghost use Rattle.khal_list.specs.Listed.{style_of};
 ghost use Rattle.khal_list.specs.Text.{under};
 
@@ -14,7 +14,7 @@ use std::alloc::AllocError;
 /// A way to draw occurrences from a source, each under a day.
 pub(crate) trait Draws<'a, X> {
     ghost use Rattle.std.specs.Prelude.{List};
-    ghost use Rattle.ics_series.specs.OnDays.{OnDay};
+    ghost use Rattle.ics_listing.specs.DayKeys.{OnDay};
 
     /// The source has this list to come.
     ghost comes: { Self → X → List OnDay → Type 0 };

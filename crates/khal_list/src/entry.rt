@@ -1,7 +1,7 @@
 //! An entry of a listing, under its day.
 ghost use Rattle.std.specs.Prelude.{◌≡◌, ◌++◌, OnOk};
 ghost use Rattle.ics_fields.specs.Days.{IsDayNumber};
-ghost use Rattle.ics_series.specs.Entry.{entry_of};
+ghost use Rattle.ics_listing.specs.Entry.{entry_of};
 ghost use Rattle.khal_list.specs.Listed.{style_of};
 ghost use Rattle.khal_list.specs.Text.{heading_after, entry_text, day_under};
 

@@ -1,8 +1,8 @@
 //! Requests that list occurrences under each of their days.
 ghost use Rattle.std.specs.Prelude.{◌≡◌, IfOk, IsErrOf, codes, option_map};
 ghost use Rattle.clap.specs.Words.{subcommand_rows_of};
-ghost use Rattle.ics_series.specs.OnDays.{day_key_rank};
-ghost use Rattle.ics_series.specs.Tokens.{IsDayToken, IsToken};
+ghost use Rattle.ics_listing.specs.DayKeys.{day_key_rank};
+ghost use Rattle.ics_listing.specs.Tokens.{IsDayToken, IsToken};
 ghost use Rattle.ics_zone.specs.ZoneSaid.{display_said};
 ghost use Rattle.khal_words.specs.Entries.{IsFlag};
 ghost use Rattle.khal_list.specs.RequestOf as spec;

@@ -1,6 +1,6 @@
 //! The line of an entry.
 ghost use Rattle.std.specs.Prelude.{◌≡◌, ◌++◌, OnOk};
-ghost use Rattle.ics_series.specs.Entry.{entry_of};
+ghost use Rattle.ics_listing.specs.Entry.{entry_of};
 ghost use Rattle.khal_words.specs.Formats.{shown_piece};
 ghost use Rattle.khal_list.specs.Listed.{style_of};
 ghost use Rattle.khal_list.specs.Text.{entry_field_text, line_text};

@@ -2,7 +2,7 @@
 ghost use Rattle.std.specs.Prelude.{◌≡◌, ◌⊎◌, Ok, Err, IfOk, OnOk, OnErr, IsErrOf, map};
 ghost use Rattle.std.specs.Option.{option_map};
 ghost use Rattle.std.specs.String.{string_bytes};
-ghost use Rattle.ics_event.specs.Event.{said_by};
+ghost use Rattle.ics_file.specs.File.{said_by};
 ghost use Rattle.khal_ports.specs.declared.fault.SinkFault.TheVariants.{Device};
 ghost use Rattle.khal_ports.specs.Growth.{LeftByFault, LeftByFlush};
 ghost use Rattle.khal_list.specs.Headline.{Lists, Shown, ShownInPart, Shows, ShowsDays, ShowsOnce, Stops};
@@ -12,7 +12,7 @@ use crate::kept::texts_named;
 use crate::more::put_more;
 use crate::printing::{print, print_days};
 use crate::request::Request;
-use ics_event::FileEvents;
+use ics_file::FileEvents;
 use ics_series::{DayToken, Folder, Token};
 use khal_ports::{RunFault, Sink, Source, ZoneSource, flush_all, put_all};
 use khal_reading::{Status, read_all};

@@ -3,7 +3,7 @@ use Rattle.std.specs.Prelude.{◌≡◌, ◌≢◌, ◌⊎◌, ℕ, ℤ, pos, �
 use Rattle.std.specs.Prelude.{option_map, if◌then◌else◌}
 use Rattle.std.specs.Option.{option_or}
 use Rattle.ics_fields.specs.Locals.{year_number}
-use Rattle.ics_event.specs.Event.{FileSaid}
+use Rattle.ics_file.specs.File.{FileSaid}
 use Rattle.ics_components.specs.declared.fault.Fault.{Fault}
 use Rattle.ics_calendar.specs.Files.{file_of}
 use Rattle.ics_calendar.specs.GivenFiles.{files_by}

@@ -8,7 +8,7 @@ use Rattle.std.proofs.lemmas.Map.Views.{All-from_any}
 use Rattle.ics_calendar.specs.Files.{file_of, wanted_names}
 use Rattle.ics_calendar.specs.Kept.{kept_answer}
 use Rattle.ics_components.specs.declared.fault.Fault.{Fault}
-use Rattle.ics_event.specs.Event.{FileSaid}
+use Rattle.ics_file.specs.File.{FileSaid}
 use Rattle.ics_event.specs.Kept.{KeptTexts}
 use Rattle.ics_calendar.specs.GivenFiles.{GivenFiles}
 use Rattle.ics_calendar.specs.Parts.{file_gives, names_for_parts}

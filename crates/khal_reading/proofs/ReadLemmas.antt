@@ -10,8 +10,9 @@ use Rattle.std.proofs.lemmas.List.{map-append}
 use Rattle.std.proofs.lemmas.Grind.{flat_map-append}
 use Rattle.std.proofs.lemmas.Option.{slice_get-get_or}
 use Rattle.std.proofs.lemmas.Map.Views.{All-from_any}
-use Rattle.ics_event.specs.Event.{FileSaid}
-use Rattle.ics_event.specs.Kept.{KeptTexts, kept_said}
+use Rattle.ics_file.specs.File.{FileSaid}
+use Rattle.ics_event.specs.Kept.{KeptTexts}
+use Rattle.ics_file.specs.Kept.{kept_said}
 use Rattle.khal_reading.specs.declared.answered.Answered.{Answered}
 use Rattle.khal_ports.specs.Answers.{Answer, Contents, contents_of}
 use Rattle.khal_reading.specs.Asked.{given_files, is_unread, names_of, Asked, AsksAll, AsksSome}

@@ -2,8 +2,9 @@
 use Rattle.std.specs.Prelude.{◌≡◌, ℕ, Bool, true, false, List, [], ◌∷◌, map, get_or, Option, Some, None, Result, Ok, Err, if◌then◌else◌}
 use Rattle.std.specs.List.{flat_map, list_any, zip}
 use Rattle.std.specs.Option.{option_map}
-use Rattle.ics_event.specs.Event.{FileSaid}
-use Rattle.ics_event.specs.Kept.{KeptTexts, kept_said}
+use Rattle.ics_file.specs.File.{FileSaid}
+use Rattle.ics_event.specs.Kept.{KeptTexts}
+use Rattle.ics_file.specs.Kept.{kept_said}
 use Rattle.ics_calendar.specs.Files.{file_of, wanted_names}
 use Rattle.ics_calendar.specs.GivenFiles.{GivenFiles}
 use Rattle.ics_calendar.specs.Parts.{Given, file_gives, names_for_parts}

@@ -4,7 +4,7 @@ ghost use Rattle.std.specs.BTreeSet.{contains};
 ghost use Rattle.std.specs.Cmp.Lexicographic.{slice_cmp};
 ghost use Rattle.std.specs.List.{list_any};
 ghost use Rattle.std.specs.Ordering.{nat_cmp};
-ghost use Rattle.ics_event.specs.Event.{said_by};
+ghost use Rattle.ics_file.specs.File.{said_by};
 ghost use Rattle.ics_calendar.specs.ZoneTables.{given_by};
 ghost use Rattle.khal_ports.specs.Answers.{most_bytes, Answer};
 ghost use Rattle.khal_reading.specs.Asked.{Asked};
@@ -18,7 +18,8 @@ use ics_calendar::{
     Fault, FaultKind, FileFault, GivenFile, PartialFile, SharedZones, UnresolvedFile, ZoneFiles,
     only_names_for_parts_count, only_wanted_files_count,
 };
-use ics_event::{FileEvents, KeptTexts, Text};
+use ics_event::{KeptTexts, Text};
+use ics_file::FileEvents;
 use khal_ports::{RunFault, Source, SourceFault, ZoneSource};
 use std::alloc::{AllocError, Global};
 

@@ -1,6 +1,6 @@
 //! The files of a source, read one by one.
 ghost use Rattle.std.specs.Prelude.{◌≡◌, ◌≢◌, ◌↔◌, ◌++◌, List, [], IfOk, IfErr, OnOk, map};
-ghost use Rattle.ics_event.specs.Event.{said_by};
+ghost use Rattle.ics_file.specs.File.{said_by};
 ghost use Rattle.khal_ports.specs.Answers.{Contents};
 ghost use Rattle.khal_reading.specs.Errors.{lines_of};
 ghost use Rattle.khal_reading.specs.Asked.{Asked, AsksAll, AsksSome};
@@ -13,7 +13,8 @@ use crate::outcome::{Outcome, read_outcome};
 use crate::refusal::add_refusal_lines;
 use crate::status::Status;
 use ics_calendar::{SharedZones, only_names_for_parts_count, only_wanted_files_count};
-use ics_event::{FileEvents, KeptTexts};
+use ics_event::KeptTexts;
+use ics_file::FileEvents;
 use khal_ports::{RunFault, Source, ZoneSource};
 use std::alloc::Global;
 

@@ -8,7 +8,7 @@ use Rattle.ics_components.specs.declared.parsed_file.LineCheck.{LineCheck}
 use Rattle.ics_components.specs.ParsedFileSeen.{ParsedFileSeen}
 use Rattle.ics_components.specs.ParsedFiles.{IsSoundParsed}
 use Rattle.ics_components.specs.Sound.{IsSoundZone}
-use Rattle.ics_event.specs.Event.{FileSaid}
+use Rattle.ics_file.specs.File.{FileSaid}
 use Rattle.ics_calendar.specs.declared.zone_table.ZoneTable.{ZoneTable}
 use Rattle.ics_calendar.specs.DeferredChecks.{KnownZones, is_same, with_files}
 use Rattle.ics_calendar.specs.GivenFiles.{GivenFiles}

@@ -1,23 +1,24 @@
 -- The lists of the versions that count and whose events recur, one for each.
 use Rattle.std.specs.Prelude.{◌≡◌, ◌⊎◌, [], ◌<ℤ◌, ◌≤ℤ◌, ◌++◌, ℕ, ℤ, int_le, true, false, List, map, Option, Some}
 use Rattle.std.specs.List.{AllByRecursion}
-use Rattle.ics_event.specs.Event.{FileSaid}
+use Rattle.ics_file.specs.File.{FileSaid}
 use Rattle.ics_event.specs.declared.event.Event.{Event}
-use Rattle.ics_series.specs.declared.window.Window.{Window}
-use Rattle.ics_series.specs.Clocks.{Clock}
-use Rattle.ics_series.specs.Entry.{Entry, Rank, entry_cmp}
-use Rattle.ics_series.specs.Listing.{IsIn, IsListing}
+use Rattle.ics_listing.specs.declared.window.Window.{Window}
+use Rattle.ics_listing.specs.FileClocks.{Clock}
+use Rattle.ics_listing.specs.Entry.{Entry, Rank, entry_cmp}
+use Rattle.ics_listing.specs.Listing.{IsIn, IsListing}
 use Rattle.ics_series.specs.Meets.{Meets}
-use Rattle.ics_series.specs.After.{is_after}
+use Rattle.ics_listing.specs.After.{is_after}
 use Rattle.ics_series.specs.Occurs.{IsOf}
 use Rattle.ics_series.specs.PlacedEvents.{clocks_at}
-use Rattle.ics_series.specs.Rising.{Rises}
+use Rattle.ics_listing.specs.Rising.{Rises}
 use Rattle.ics_series.specs.Singles.{is_single}
-use Rattle.ics_series.specs.Sources.{Recurring, Source, uid_cmp, IsFrom}
-use Rattle.ics_series.specs.Sources.Source.{Of}
+use Rattle.ics_listing.specs.FeedSources.{Recurring, Source}
+use Rattle.ics_series.specs.Sources.{uid_cmp, IsFrom}
+use Rattle.ics_listing.specs.FeedSources.Source.{Of}
 use Rattle.ics_series.specs.Spots.{event_at}
 use Rattle.ics_series.specs.Versions.{Label}
-use Rattle.ics_series.specs.WindowBounds.{occurrence_first, window_last}
+use Rattle.ics_listing.specs.WindowBounds.{occurrence_first, window_last}
 
 -- the event of a version is a master that recurs
 pub record Recurs (files : List FileSaid) (l : Label) : Type 0 where

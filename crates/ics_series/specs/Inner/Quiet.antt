@@ -7,12 +7,14 @@ use Rattle.ics_event.specs.Event.{Rdate, Time}
 use Rattle.ics_fields.specs.Locals.{number}
 use Rattle.ics_rule.specs.Kept.{is_kept}
 use Rattle.ics_rule.specs.Recurrence.{Recurrence}
-use Rattle.ics_series.specs.declared.window.Window.{Window}
-use Rattle.ics_series.specs.Clocks.{Clocks, instant}
-use Rattle.ics_series.specs.Entry.{Entry}
+use Rattle.ics_listing.specs.declared.window.Window.{Window}
+use Rattle.ics_listing.specs.FileClocks.{Clocks}
+use Rattle.ics_series.specs.Clocks.{instant}
+use Rattle.ics_listing.specs.Entry.{Entry}
 use Rattle.ics_series.specs.Occurs.{IsOf}
 use Rattle.ics_series.specs.RuleStarts.{lets_until, moment_numbered}
-use Rattle.ics_series.specs.Starts.{given_by, time_of}
+use Rattle.ics_series.specs.Starts.{given_by}
+use Rattle.ics_listing.specs.StartTimes.{time_of}
 
 -- the rule keeps the local with this number and allows its instant
 abbrev pub starts_by : Clocks → Event → Recurrence → ℕ → Bool

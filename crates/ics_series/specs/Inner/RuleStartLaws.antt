@@ -12,16 +12,18 @@ use Rattle.ics_rule.specs.declared.cursor.Cursor.{Cursor}
 use Rattle.ics_rule.specs.declared.effective_rule.EffectiveRule.{EffectiveRule}
 use Rattle.ics_event.specs.declared.event.Event.{Event}
 use Rattle.ics_fields.specs.declared.local.Local.{Local}
-use Rattle.ics_series.specs.declared.start.Start.{Start}
-use Rattle.ics_series.specs.declared.window.Window.{Window}
+use Rattle.ics_listing.specs.declared.start.Start.{Start}
+use Rattle.ics_listing.specs.declared.window.Window.{Window}
 use Rattle.ics_series.specs.declared.zones.FileZones.{FileZones}
-use Rattle.ics_series.specs.Clocks.{clock_of, Clock, Clocks, IsBounded}
+use Rattle.ics_series.specs.Clocks.{clock_of, IsBounded}
+use Rattle.ics_listing.specs.FileClocks.{Clock, Clocks}
 use Rattle.ics_series.specs.EventLaws.{time-prop}
 use Rattle.ics_series.specs.FileZones.{clocks_in, IsTimeOf}
 use Rattle.ics_series.specs.Leeway.{seconds_off}
 use Rattle.ics_zone.specs.declared.bounds.Bounds.{Bounds}
 use Rattle.ics_series.specs.RuleStarts.{ends_at, AreHeld, HasLookedTo, IsHeld, IsReadTo}
-use Rattle.ics_series.specs.Starts.{local_of, recurrence_of}
+use Rattle.ics_listing.specs.StartTimes.{local_of}
+use Rattle.ics_series.specs.Starts.{recurrence_of}
 
 Start-set : (a b : Start) → IsProp (a ≡ b)
 Start-set a b = hlevel (props, codes)

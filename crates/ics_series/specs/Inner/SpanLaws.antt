@@ -2,14 +2,14 @@
 use Rattle.std.specs.Prelude.{◌≡◌, ℤ, List, map}
 use Rattle.std.specs.Coded.{Π_prop, codes}
 use Rattle.std.proofs.Props.{props}
-use Rattle.ics_event.specs.Event.{FileSaid}
+use Rattle.ics_file.specs.File.{FileSaid}
 use Rattle.ics_event.specs.declared.event.Event.{Event}
 use Rattle.ics_series.specs.declared.span.Span.{Span}
 use Rattle.ics_series.specs.declared.version.Version.{Version}
-use Rattle.ics_series.specs.declared.window.Window.{Window}
+use Rattle.ics_listing.specs.declared.window.Window.{Window}
 use Rattle.ics_series.specs.Chosen.{IsChosen}
-use Rattle.ics_series.specs.Clocks.{Clock, Clocks}
-use Rattle.ics_series.specs.Listing.{IsListing}
+use Rattle.ics_listing.specs.FileClocks.{Clock, Clocks}
+use Rattle.ics_listing.specs.Listing.{IsListing}
 use Rattle.ics_series.specs.Inner.Spans.{AreSpansAfter, NoneMeets}
 use Rattle.ics_series.specs.PlacedEvents.{Placed, clocks_at}
 use Rattle.ics_series.specs.Versions.{by_subject, label_of, seen, Label}

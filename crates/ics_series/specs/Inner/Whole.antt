@@ -1,7 +1,8 @@
 -- What is known of the files of a folder once the versions of their events are listed.
 use Rattle.std.specs.Prelude.{◌≡◌, ℕ, List, Some, slice_get}
 use Rattle.hex.specs.Hex.{IsBytes}
-use Rattle.ics_event.specs.Event.{FileSaid, IsEvent}
+use Rattle.ics_file.specs.File.{FileSaid}
+use Rattle.ics_event.specs.Event.{IsEvent}
 use Rattle.ics_event.specs.declared.event.Event.{Event}
 use Rattle.ics_series.specs.PlacedEvents.{Placed, IsPlaced}
 

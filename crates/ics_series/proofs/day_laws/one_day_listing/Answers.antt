@@ -1,5 +1,6 @@
-use Rattle.ics_series.specs.OnDays.{on_day_cmp, IsOnDay}
-use Rattle.ics_series.proofs.ListingLemmas.{one-listing}
+use Rattle.ics_listing.specs.DayKeys.{on_day_cmp}
+use Rattle.ics_series.specs.OnDays.{IsOnDay}
+use Rattle.ics_listing.proofs.ListingLemmas.{one-listing}
 use Rattle.ics_series.proofs.OnDayLemmas.{on_day_total}
 use Rattle.ics_series.proofs.day_laws.one_day_listing.Goals as goal
 

@@ -2,11 +2,11 @@ use Rattle.std.proofs.Common.{◌≡◌, ◌≤ℤ◌, ◌<ℤ◌, ◌-ℤ◌, �
 use Rattle.std.specs.Int.{int_max, int_min}
 use Rattle.std.proofs.lemmas.Int.{int_max_is, int_min_is, ints, to_z-of_z}
 use Rattle.ics_fields.specs.Locals.{day_of_local, midnight}
-use Rattle.ics_series.specs.OnDays.{first_near, last_near}
+use Rattle.ics_listing.specs.DayKeys.{first_near, last_near}
 use Rattle.ics_series.specs.Inner.Spans.{first_of}
 use Rattle.ics_series.specs.declared.span.Span.{Span}
-use Rattle.ics_series.specs.declared.window.Window.{Window}
-use Rattle.ics_series.proofs.NearDayLemmas.{day-under, day-within}
+use Rattle.ics_listing.specs.declared.window.Window.{Window}
+use Rattle.ics_listing.proofs.NearLemmas.{day-under, day-within}
 use Rattle.ics_series.proofs.SpanLemmas.{first-most, none-near}
 use Rattle.ics_series.proofs.days.next_day.Goals as goal
 

@@ -4,10 +4,11 @@ use Rattle.ics_fields.specs.declared.local.Local.{Local}
 use Rattle.ics_fields.specs.Locals.{whole_days}
 use Rattle.ics_values.specs.declared.stamp.Stamp.{Stamp}
 use Rattle.ics_values.specs.declared.stamp.Stamp.TheVariants.{Date, Floating}
-use Rattle.ics_series.specs.Clocks.{Clock, Clocks, clock_by, clock_of, local_at, zone_clock}
+use Rattle.ics_listing.specs.FileClocks.{Clock, Clocks}
+use Rattle.ics_series.specs.Clocks.{clock_by, clock_of, local_at, zone_clock}
 use Rattle.ics_zone.specs.ZoneSaid.{zone_said}
 use Rattle.ics_series.specs.FileZones.{clocks_in}
-use Rattle.ics_series.proofs.Cases.{moment-back}
+use Rattle.ics_listing.proofs.Cases.{moment-back}
 use Rattle.ics_series.proofs.finish.days_after.Goals as goal
 
 by-display : (clocks : Clocks) (zone : Option ℕ) (s : Stamp) → ((day : ℤ) × (s ≡ Date day)) ⊎ ((local : Local) × (s ≡ Floating local)) →

@@ -2,7 +2,7 @@ use Rattle.std.proofs.Common.{w64, arith, to_z-of_z, SFits}
 use Rattle.std.proofs.lemmas.Int.{ints}
 use Rattle.ics_zone.specs.Seconds.{IsNear}
 use Rattle.ics_series.proofs.InstantLemmas.{moved, near-moved}
-use Rattle.ics_series.proofs.Cases.{moment-back}
+use Rattle.ics_listing.proofs.Cases.{moment-back}
 use Rattle.ics_series.proofs.finish.days_after_at.Goals as goal
 
 pub overflow_add-local : goal.overflow_add-local

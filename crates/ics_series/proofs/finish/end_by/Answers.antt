@@ -5,9 +5,9 @@ use Rattle.ics_event.specs.Event.{IsLength}
 use Rattle.ics_series.specs.Clocks.{instant}
 use Rattle.ics_series.specs.Finish.{end_by}
 use Rattle.ics_series.specs.FileZones.{clocks_in, EndsNear, IsEndOf}
-use Rattle.ics_series.proofs.StartSourceLemmas.{day-years}
+use Rattle.ics_listing.proofs.StartOrderLemmas.{day-years}
 use Rattle.ics_series.proofs.InstantLemmas.{until-years, instant-near, late, until, day-written}
-use Rattle.ics_series.specs.WindowBounds.{occurrence_first}
+use Rattle.ics_listing.specs.WindowBounds.{occurrence_first}
 use Rattle.ics_series.proofs.finish.end_by.Goals as goal
 
 pub midnight_after-requires-clause-early : goal.midnight_after-requires-clause-early

@@ -1,12 +1,12 @@
 use Rattle.std.proofs.Common.{length, arith, subst}
 use Rattle.std.proofs.lemmas.Int.{ints, int_max_is}
 use Rattle.ics_event.specs.Event.{RdateBelow}
-use Rattle.ics_series.specs.Starts.{time_of}
-use Rattle.ics_series.specs.declared.start.Start.{Start}
+use Rattle.ics_listing.specs.StartTimes.{time_of}
+use Rattle.ics_listing.specs.declared.start.Start.{Start}
 use Rattle.ics_series.specs.declared.zones.FileZones.{FileZones}
 use Rattle.ics_series.specs.FileZones.{IsTimeOf}
 use Rattle.ics_series.specs.Found.{IsStartIn}
-use Rattle.ics_series.proofs.StartSourceLemmas.{rdate-below, rdate-time}
+use Rattle.ics_listing.proofs.StartOrderLemmas.{rdate-below, rdate-time}
 use Rattle.ics_series.proofs.finish.finish.Goals as goal
 use Rattle.ics_series.proofs.finish.finish.Goals.{in-At, in-Span}
 

@@ -1,6 +1,7 @@
 use Rattle.std.proofs.Common.{◌≡◌, pos, ◌+ℤ◌, ◌*◌, w64, refl, arith, to_z-of_z, SFits}
 use Rattle.std.proofs.lemmas.Int.{ints}
-use Rattle.ics_series.specs.Clocks.{Clock, clock_of, local_at}
+use Rattle.ics_listing.specs.FileClocks.{Clock}
+use Rattle.ics_series.specs.Clocks.{clock_of, local_at}
 use Rattle.ics_series.specs.FileZones.{clocks_in}
 use Rattle.ics_series.proofs.InstantLemmas.{moved}
 use Rattle.ics_series.proofs.finish.later_by.Goals as goal

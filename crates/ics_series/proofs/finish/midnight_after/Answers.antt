@@ -2,7 +2,7 @@ use Rattle.std.proofs.Common.{w32, arith, SFits}
 use Rattle.std.proofs.lemmas.Int.{ints}
 use Rattle.ics_zone.specs.ZoneSaid.{display_said, said_moment}
 use Rattle.ics_series.proofs.InstantLemmas.{moved, result_near}
-use Rattle.ics_series.proofs.Cases.{moment-back}
+use Rattle.ics_listing.proofs.Cases.{moment-back}
 use Rattle.ics_series.proofs.finish.midnight_after.Goals as goal
 
 pub returns-clause-value : goal.returns-clause-value

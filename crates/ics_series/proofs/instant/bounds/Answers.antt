@@ -4,7 +4,8 @@ use Rattle.ics_fields.specs.declared.local.Local.{Local}
 use Rattle.ics_values.specs.declared.stamp.Stamp.{Stamp}
 use Rattle.ics_values.specs.declared.stamp.Stamp.TheVariants.{Date, Floating, Zoned}
 use Rattle.ics_zone.specs.declared.bounds.Bounds.{Bounds}
-use Rattle.ics_series.specs.Clocks.{clock_by, utc_clock, Clock, Clocks, IsBounded}
+use Rattle.ics_series.specs.Clocks.{clock_by, utc_clock, IsBounded}
+use Rattle.ics_listing.specs.FileClocks.{Clock, Clocks}
 use Rattle.ics_series.specs.FileZones.{clocks_in}
 use Rattle.ics_series.specs.Leeway.{seconds_off}
 use Rattle.ics_series.proofs.instant.bounds.Goals as goal

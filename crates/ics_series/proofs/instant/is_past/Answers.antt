@@ -5,8 +5,8 @@ use Rattle.ics_fields.specs.declared.local.Local.{Local}
 use Rattle.ics_fields.specs.Locals.{local_seconds, whole_days}
 use Rattle.ics_values.specs.declared.stamp.Stamp.{Stamp}
 use Rattle.ics_values.specs.declared.stamp.Stamp.TheVariants.{Date}
-use Rattle.ics_series.specs.Starts.{local_of}
-use Rattle.ics_series.proofs.Cases.{moment-back}
+use Rattle.ics_listing.specs.StartTimes.{local_of}
+use Rattle.ics_listing.proofs.Cases.{moment-back}
 use Rattle.ics_series.proofs.instant.is_past.Goals as goal
 
 seconds-of : (s : Stamp) → local_seconds (local_of s) ≡ stamp_seconds s

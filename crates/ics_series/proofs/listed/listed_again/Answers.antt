@@ -4,10 +4,11 @@ use Rattle.std.proofs.lemmas.Int.{ints}
 use Rattle.std.proofs.lemmas.Option.{get_or_from_slice_get, slice_get_read, slice_get_within}
 use Rattle.ics_event.specs.declared.event.Event.{Event}
 use Rattle.ics_event.specs.Event.{Rdate}
-use Rattle.ics_series.specs.declared.start.StartSource.TheVariants.{Listed}
+use Rattle.ics_listing.specs.declared.start.StartSource.TheVariants.{Listed}
 use Rattle.ics_series.specs.Clocks.{instant}
 use Rattle.ics_series.specs.FileZones.{clocks_in, IsTimeOf}
-use Rattle.ics_series.specs.Starts.{given_by, time_of}
+use Rattle.ics_series.specs.Starts.{given_by}
+use Rattle.ics_listing.specs.StartTimes.{time_of}
 use Rattle.ics_series.proofs.ZoneLemmas.{given-time}
 use Rattle.ics_series.proofs.listed.listed_again.Goals as goal
 

@@ -2,7 +2,8 @@ use Rattle.std.proofs.Common.{◌≡◌, ◌<◌, ℕ, Some, slice_get}
 use Rattle.ics_event.specs.Event.{Rdate}
 use Rattle.ics_series.specs.FileZones.{clocks_in}
 use Rattle.ics_series.specs.Inner.Quiet.{IsAgain}
-use Rattle.ics_series.specs.Starts.{given_by, time_of}
+use Rattle.ics_series.specs.Starts.{given_by}
+use Rattle.ics_listing.specs.StartTimes.{time_of}
 use Rattle.ics_series.proofs.listed.listed_again.Given as goal
 
 -- neither DTSTART nor an RDATE so far gives a start before the least

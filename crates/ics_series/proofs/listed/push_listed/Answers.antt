@@ -4,8 +4,9 @@ use Rattle.std.proofs.Common.{◌≡◌, Some, List, length, refl, sym, ◌∙�
 use Rattle.std.proofs.lemmas.Option.{slice_get_read}
 use Rattle.ics_event.specs.declared.event.Event.{Event}
 use Rattle.ics_event.specs.Event.{Rdate}
-use Rattle.ics_series.specs.declared.start.StartSource.TheVariants.{Listed}
-use Rattle.ics_series.specs.Starts.{given_by, time_of}
+use Rattle.ics_listing.specs.declared.start.StartSource.TheVariants.{Listed}
+use Rattle.ics_series.specs.Starts.{given_by}
+use Rattle.ics_listing.specs.StartTimes.{time_of}
 use Rattle.ics_series.specs.FileZones.{IsTimeOf}
 use Rattle.ics_series.proofs.ZoneLemmas.{given-time}
 use Rattle.ics_series.proofs.listed.push_listed.Goals as goal

@@ -1,6 +1,6 @@
 use Rattle.std.proofs.Common.{◌≡◌, ◌∙◌, ℤ, inr, None, Some, Option, is_some, option_map, refl, rules, sym, subst, to_z, of_z, w64, pos, false, true}
 use Rattle.ics_series.specs.declared.series.Series.{Series}
-use Rattle.ics_series.specs.Entry.{key_rank}
+use Rattle.ics_listing.specs.Entry.{key_rank}
 use Rattle.ics_series.specs.FileZones.{clocks_in}
 use Rattle.ics_series.specs.Inner.Quiet.{IsQuietTo}
 use Rattle.ics_series.specs.SeriesFeed.{IsSameSeries}

@@ -1,8 +1,8 @@
 use Rattle.std.proofs.Common.{map, take, option_map}
 use Rattle.std.specs.List.{flat_map}
-use Rattle.ics_event.specs.Event.{said_by}
+use Rattle.ics_file.specs.File.{said_by}
 use Rattle.ics_series.specs.Clocks.{display_clock}
-use Rattle.ics_series.specs.Entry.{key_rank}
+use Rattle.ics_listing.specs.Entry.{key_rank}
 use Rattle.ics_series.specs.Inner.Marks.{AreMarks}
 use Rattle.ics_series.specs.Inner.Masters.{HasLists, HasSources}
 use Rattle.ics_series.specs.Inner.Spans.{AreMovedOn}

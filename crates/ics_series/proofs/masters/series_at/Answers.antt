@@ -1,17 +1,18 @@
 use Rattle.std.proofs.Common.{◌≡◌, ◌≤ℤ◌, Some, arith, ◌∙◌, rules, map, slice_get, w64, to_z, of_z, refl, sym, ap, subst, option_map}
 use Rattle.std.proofs.lemmas.Int.{ints}
 use Rattle.std.proofs.lemmas.Option.{slice_get_read}
-use Rattle.ics_event.specs.Event.{said_by, IsEventOf}
+use Rattle.ics_file.specs.File.{said_by, IsEventOf}
 use Rattle.ics_event.specs.declared.event.Event.{Event}
 use Rattle.ics_series.specs.Clocks.{display_clock}
-use Rattle.ics_series.specs.Entry.{key_rank}
+use Rattle.ics_listing.specs.Entry.{key_rank}
 use Rattle.ics_series.specs.Inner.Masters.{Recurs}
-use Rattle.ics_series.specs.Sources.{IsFrom, Recurring}
-use Rattle.ics_series.specs.declared.window.Window.{Window}
+use Rattle.ics_series.specs.Sources.{IsFrom}
+use Rattle.ics_listing.specs.FeedSources.{Recurring}
+use Rattle.ics_listing.specs.declared.window.Window.{Window}
 use Rattle.ics_series.specs.Versions.{seen}
 use Rattle.ics_series.specs.FileZones.{clocks_in}
 use Rattle.ics_series.proofs.VersionLemmas.{stands}
-use Rattle.ics_series.proofs.Cases.{some-same}
+use Rattle.ics_listing.proofs.Cases.{some-same}
 use Rattle.ics_series.proofs.RecurringLemmas.{IsRead, not-single, series-listing}
 use Rattle.ics_series.proofs.SpanLemmas.{first_source}
 use Rattle.ics_series.proofs.ZoneLemmas.{own-event}

@@ -3,7 +3,7 @@ use Rattle.std.proofs.lemmas.Int.{ints}
 use Rattle.std.specs.Cmp.Lexicographic.{slice_cmp}
 use Rattle.std.specs.Int.{saturate_signed}
 use Rattle.std.specs.Ordering.{ordering_then}
-use Rattle.ics_series.specs.Entry.{key_rank}
+use Rattle.ics_listing.specs.Entry.{key_rank}
 use Rattle.ics_series.proofs.AfterLemmas.{since-next, since-none, since-start, turned}
 use Rattle.ics_series.proofs.SourceLemmas.{from-next}
 use Rattle.ics_series.proofs.masters.since_of.Goals as goal

@@ -4,12 +4,13 @@ use Rattle.std.specs.Int.{int_max, int_min}
 use Rattle.std.proofs.lemmas.Bool.{and_parts}
 use Rattle.std.proofs.lemmas.Int.{int_max_is, int_min_is, ints}
 use Rattle.ics_zone.proofs.Cases.{int_le_true}
-use Rattle.ics_series.specs.declared.window.Window.{Window}
-use Rattle.ics_series.specs.Clocks.{Clock, display_clock}
+use Rattle.ics_listing.specs.declared.window.Window.{Window}
+use Rattle.ics_listing.specs.FileClocks.{Clock}
+use Rattle.ics_series.specs.Clocks.{display_clock}
 use Rattle.ics_series.specs.OnDays.{date_at, end_day, first_day, is_on, last_day}
-use Rattle.ics_series.specs.Entry.{Entry, entry_of}
-use Rattle.ics_series.specs.WindowBounds.{occurrence_first}
-use Rattle.ics_series.proofs.Cases.{equal-true}
+use Rattle.ics_listing.specs.Entry.{Entry, entry_of}
+use Rattle.ics_listing.specs.WindowBounds.{occurrence_first}
+use Rattle.ics_listing.proofs.Cases.{equal-true}
 use Rattle.ics_series.proofs.occurrence_days.is_on.Goals as goal
 
 same-value : (a b : ℤ) → SFits w32 a → SFits w32 b → nat_eq (of_z w32 a) (of_z w32 b) ≡ int_eq a b

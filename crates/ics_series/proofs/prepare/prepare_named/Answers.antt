@@ -1,8 +1,8 @@
 use Rattle.std.proofs.Common.{◌≡◌, length, map, slice_set, sym, ap, ◌∙◌, subst, arith}
 use Rattle.std.proofs.lemmas.List.{set-get_or}
-use Rattle.ics_event.specs.contracts.events.FileEvents.{the_view}
-use Rattle.ics_event.specs.Event.{AreEventsOf}
-use Rattle.ics_event.specs.declared.events.FileEvents.{FileEvents}
+use Rattle.ics_file.specs.contracts.events.FileEvents.{the_view}
+use Rattle.ics_file.specs.File.{AreEventsOf}
+use Rattle.ics_file.specs.declared.events.FileEvents.{FileEvents}
 use Rattle.ics_zone.specs.ZoneSaid.{zone_said}
 use Rattle.ics_series.proofs.prepare.prepare_named.Goals as goal
 use Rattle.ics_series.proofs.prepare.prepare_named.Goals.{in-Some+in-Some-get_mut, in-Some+in_default-get_mut, in_default}

@@ -1,5 +1,5 @@
 use Rattle.std.proofs.Common.{◌≡◌}
-use Rattle.ics_event.specs.declared.events.FileEvents.{FileEvents}
+use Rattle.ics_file.specs.declared.events.FileEvents.{FileEvents}
 use Rattle.ics_series.proofs.prepare.prepare_named.Given as goal
 
 abbrev pub invariant-loop-k : goal.invariant-loop-k

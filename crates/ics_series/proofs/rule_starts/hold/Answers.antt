@@ -2,14 +2,16 @@ use Rattle.std.proofs.Common.{◌≡◌, ◌∷◌, [], List, w64, to_z, of_z, a
 use Rattle.std.proofs.lemmas.Int.{ints}
 use Rattle.ics_series.specs.Clocks.{instant}
 use Rattle.ics_series.specs.FileZones.{clocks_in}
-use Rattle.ics_series.specs.Found.{moment_cmp, start_at}
-use Rattle.ics_series.specs.Merged.{union}
-use Rattle.ics_series.specs.Starts.{time_at}
-use Rattle.ics_series.specs.Waiting.{start_of, starts_in, waiting_in}
-use Rattle.ics_series.specs.declared.queue.Waiting.{Waiting}
-use Rattle.ics_series.specs.declared.start.Start.{Start}
+use Rattle.ics_listing.specs.StartOrder.{moment_cmp}
+use Rattle.ics_series.specs.Found.{start_at}
+use Rattle.ics_listing.specs.Merged.{union}
+use Rattle.ics_listing.specs.StartTimes.{time_at}
+use Rattle.ics_listing.specs.Waiting.{start_of, starts_in, waiting_in}
+use Rattle.ics_listing.specs.declared.queue.Waiting.{Waiting}
+use Rattle.ics_listing.specs.declared.start.Start.{Start}
 use Rattle.ics_series.proofs.QueueLemmas.{rises-waiting, start-same, union-starts}
-use Rattle.ics_series.proofs.StartSourceLemmas.{calendar-day, own-day, gives-by}
+use Rattle.ics_listing.proofs.StartOrderLemmas.{calendar-day, own-day}
+use Rattle.ics_series.proofs.StartSourceLemmas.{gives-by}
 use Rattle.ics_series.proofs.rule_starts.hold.Goals as goal
 
 pub is_let_through-requires-clause-first : goal.is_let_through-requires-clause-first

@@ -3,7 +3,7 @@ use Rattle.std.proofs.lemmas.Int.{ints}
 use Rattle.ics_rule.specs.Kept.{until_moment}
 use Rattle.ics_fields.specs.Locals.{number}
 use Rattle.ics_zone.specs.Observances.{is_until}
-use Rattle.ics_series.proofs.StartSourceLemmas.{local-test}
+use Rattle.ics_listing.proofs.StartOrderLemmas.{local-test}
 use Rattle.ics_series.proofs.rule_starts.is_let_through.Goals as goal
 
 pub returns : goal.returns

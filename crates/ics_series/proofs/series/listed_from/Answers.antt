@@ -1,7 +1,7 @@
 use Rattle.std.proofs.Common.{rules, w64, ◌∙◌, sym, arith, SFits}
 use Rattle.std.proofs.lemmas.Int.{ints}
-use Rattle.ics_series.specs.SeriesStarts.{listed_left}
-use Rattle.ics_series.proofs.FirstLemmas.{first-least, none-first}
+use Rattle.ics_listing.specs.KnownStarts.{listed_left}
+use Rattle.ics_listing.proofs.FirstLemmas.{first-least, none-first}
 use Rattle.ics_series.proofs.SeriesLemmas.{rises-listed}
 use Rattle.ics_series.proofs.series.listed_from.Goals as goal
 

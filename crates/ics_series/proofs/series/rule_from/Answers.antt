@@ -1,7 +1,7 @@
 use Rattle.std.proofs.Common.{◌≤ℤ◌, sym, subst}
-use Rattle.ics_series.specs.Listing.{IsIn}
+use Rattle.ics_listing.specs.Listing.{IsIn}
 use Rattle.ics_series.specs.SeriesStarts.{rule_left}
-use Rattle.ics_series.proofs.Cases.{moment-back}
+use Rattle.ics_listing.proofs.Cases.{moment-back}
 use Rattle.ics_series.proofs.series.rule_from.Goals as goal
 
 pub returns-in-Some : goal.returns-in-Some

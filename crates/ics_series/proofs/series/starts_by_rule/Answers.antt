@@ -8,15 +8,16 @@ use Rattle.ics_rule.specs.Recurrence.{Recurrence}
 use Rattle.ics_series.specs.declared.mark.Mark.{Mark}
 use Rattle.ics_series.specs.Inner.Marks.{IsCountMark, IsMarkOf}
 use Rattle.ics_fields.specs.Locals.{local_seconds, whole_days}
-use Rattle.ics_series.specs.declared.window.Window.{Window}
+use Rattle.ics_listing.specs.declared.window.Window.{Window}
 use Rattle.ics_series.specs.Clocks.{clock_of, IsBounded}
 use Rattle.ics_series.specs.Leeway.{seconds_back, seconds_late, seconds_off}
 use Rattle.ics_series.specs.SeriesStarts.{first_asked, AreTooEarly}
-use Rattle.ics_series.specs.Starts.{local_of, recurrence_of}
+use Rattle.ics_listing.specs.StartTimes.{local_of}
+use Rattle.ics_series.specs.Starts.{recurrence_of}
 use Rattle.ics_series.specs.FileZones.{clocks_in, IsTimeOf}
-use Rattle.ics_series.proofs.Cases.{moment-back}
+use Rattle.ics_listing.proofs.Cases.{moment-back}
 use Rattle.ics_series.proofs.SettledLemmas.{early-local}
-use Rattle.ics_series.proofs.StartSourceLemmas.{calendar-day, number-seconds, own-day}
+use Rattle.ics_listing.proofs.StartOrderLemmas.{calendar-day, number-seconds, own-day}
 use Rattle.ics_series.proofs.series.starts_by_rule.Goals as goal
 
 to-later : (w : Window) → to_z w64 (of_z w64 (to_z w64 (of_z w64 w.to) +ℤ whole_days 14)) ≡ w.to +ℤ whole_days 14

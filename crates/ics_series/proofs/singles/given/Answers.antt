@@ -1,7 +1,7 @@
 use Rattle.std.proofs.Common.{◌∙◌, None, Some, map, ap, sym, option_map}
-use Rattle.ics_event.specs.Event.{said_by}
+use Rattle.ics_file.specs.File.{said_by}
 use Rattle.ics_series.specs.Clocks.{display_clock}
-use Rattle.ics_series.specs.Entry.{key_rank}
+use Rattle.ics_listing.specs.Entry.{key_rank}
 use Rattle.ics_series.specs.Singles.{is_to_come, single_entry}
 use Rattle.ics_series.specs.Versions.{seen}
 use Rattle.ics_series.proofs.SinglesLemmas.{gives-begun, gives-other}

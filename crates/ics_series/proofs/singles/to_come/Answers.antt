@@ -1,9 +1,9 @@
 use Rattle.std.proofs.lemmas.Grind.{common_steps}
 use Rattle.std.proofs.Common.{map, get_or, option_map, refl, sym, ◌∙◌, ap, arith}
 use Rattle.std.proofs.lemmas.Option.{slice_get-get_or, slice_get-map, slice_get_read}
-use Rattle.ics_event.specs.Event.{said_by}
+use Rattle.ics_file.specs.File.{said_by}
 use Rattle.ics_series.specs.Clocks.{display_clock}
-use Rattle.ics_series.specs.Entry.{key_rank}
+use Rattle.ics_listing.specs.Entry.{key_rank}
 use Rattle.ics_series.specs.Singles.{single_at, single_entry}
 use Rattle.ics_series.specs.Versions.{seen}
 use Rattle.ics_series.proofs.OverrideLemmas.{any_version}

@@ -3,10 +3,10 @@ use Rattle.std.proofs.Common.{◌≡◌, w64, to_z, of_z, sym, ◌∙◌, ap, su
 use Rattle.std.specs.Int.{int_min}
 use Rattle.std.proofs.lemmas.Int.{ints, int_min_is}
 use Rattle.ics_series.specs.Found.{earlier, earliest_from, IsStartIn}
-use Rattle.ics_series.specs.Starts.{time_of}
+use Rattle.ics_listing.specs.StartTimes.{time_of}
 use Rattle.ics_series.specs.FileZones.{clocks_in}
-use Rattle.ics_series.proofs.StartSourceLemmas.{rdate-time}
-use Rattle.ics_series.proofs.Cases.{moment-back}
+use Rattle.ics_listing.proofs.StartOrderLemmas.{rdate-time}
+use Rattle.ics_listing.proofs.Cases.{moment-back}
 use Rattle.ics_series.proofs.InstantLemmas.{early, late}
 use Rattle.ics_series.proofs.SoughtLemmas.{earliest-step}
 use Rattle.ics_series.proofs.starts.earliest.Goals as goal

@@ -1,7 +1,7 @@
 use Rattle.std.proofs.Common.{◌≡◌, ◌≤ℤ◌, ◌-ℤ◌, drop}
 use Rattle.ics_series.specs.Found.{earliest, earliest_from}
 use Rattle.ics_series.specs.FileZones.{clocks_in}
-use Rattle.ics_series.specs.WindowBounds.{lasts_most, occurrence_first}
+use Rattle.ics_listing.specs.WindowBounds.{lasts_most, occurrence_first}
 use Rattle.ics_series.proofs.starts.earliest.Given as goal
 
 -- with the starts from this one on it is the earliest that counts

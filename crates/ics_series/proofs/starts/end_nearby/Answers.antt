@@ -5,12 +5,12 @@ use Rattle.jiff_core.specs.Calendar.{IsWithin}
 use Rattle.ics_fields.specs.Days.{IsDayNumber}
 use Rattle.ics_fields.specs.declared.local.Local.{Local}
 use Rattle.ics_fields.specs.Locals.{day_of_local, local_seconds, midnight, whole_days, year_seconds}
-use Rattle.ics_series.specs.declared.window.Window.{Window}
+use Rattle.ics_listing.specs.declared.window.Window.{Window}
 use Rattle.ics_series.specs.Leeway.{seconds_off}
 use Rattle.ics_series.specs.RuleStarts.{ends_at}
-use Rattle.ics_series.specs.Starts.{local_of}
-use Rattle.ics_series.proofs.Cases.{moment-back}
-use Rattle.ics_series.proofs.NearDayLemmas.{day-under}
+use Rattle.ics_listing.specs.StartTimes.{local_of}
+use Rattle.ics_listing.proofs.Cases.{moment-back}
+use Rattle.ics_listing.proofs.NearLemmas.{day-under}
 use Rattle.ics_series.proofs.SettledLemmas.{off-range}
 use Rattle.ics_series.proofs.starts.end_nearby.Goals as goal
 

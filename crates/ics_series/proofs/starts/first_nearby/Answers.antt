@@ -2,7 +2,7 @@ use Rattle.std.proofs.Common.{◌+ℤ◌, ◌-ℤ◌, w64, ap, arith, SFits}
 use Rattle.std.proofs.lemmas.Int.{ints, int_max_is}
 use Rattle.ics_fields.specs.declared.local.Local.{Local}
 use Rattle.ics_fields.specs.Locals.{local_seconds, whole_days}
-use Rattle.ics_series.proofs.NearDayLemmas.{day-under}
+use Rattle.ics_listing.proofs.NearLemmas.{day-under}
 use Rattle.ics_series.proofs.starts.first_nearby.Goals as goal
 
 pub returns-then-local-first-clause-low : goal.returns-then-local-first-clause-low

@@ -3,7 +3,7 @@ use Rattle.std.proofs.Common.{◌≡◌, Some, ⊎_elim, refl, sym, ◌∙◌, a
 use Rattle.std.proofs.lemmas.Option.{slice_get_read, slice_get_within}
 use Rattle.hex.specs.Hex.{IsBytes}
 use Rattle.ics_event.specs.Event.{IsEvent}
-use Rattle.ics_series.proofs.Cases.{below-or-last, some-same}
+use Rattle.ics_listing.proofs.Cases.{below-or-last, some-same}
 use Rattle.ics_series.proofs.versions.push_versions.Goals as goal
 
 pub loop-place-init : goal.loop-place-init

@@ -1,5 +1,5 @@
 use Rattle.std.proofs.Common.{◌≡◌, ◌<◌, ◌++◌, map, drop}
-use Rattle.ics_event.specs.Event.{said_by}
+use Rattle.ics_file.specs.File.{said_by}
 use Rattle.ics_series.specs.Clocks.{display_clock}
 use Rattle.ics_series.specs.PlacedEvents.{IsPlaced, Placed}
 use Rattle.ics_series.specs.Versions.{label_of, placed_in, seen}

@@ -1,6 +1,6 @@
 use Rattle.std.proofs.Common.{w32}
 use Rattle.std.proofs.lemmas.Int.{to_z-of_z}
-use Rattle.ics_series.specs.Entry.{entry_of}
+use Rattle.ics_listing.specs.Entry.{entry_of}
 use Rattle.khal_list.specs.Listed.{style_of}
 use Rattle.khal_list.specs.Text.{heading_after, line_text}
 use Rattle.khal_list.proofs.AddedLemmas.{two_added}

@@ -4,12 +4,12 @@ use Rattle.std.proofs.lemmas.Bool.Decides.{same_from_decides}
 use Rattle.std.specs.Prelude.{option_map, unwrap_or, IsSome}
 use Rattle.clap.specs.Words.{Text, IsAmong}
 use Rattle.ics_zone.specs.ZoneSaid.{ZoneSaid}
-use Rattle.ics_series.specs.OnDays.{day_key_rank, DayRank}
-use Rattle.ics_series.specs.Tokens.{OneDaySpelling, OneSpelling}
-use Rattle.ics_series.specs.Entry.{key_rank, Rank}
-use Rattle.ics_series.specs.declared.day_key.DayKey.{DayKey}
-use Rattle.ics_series.specs.declared.window.Window.{Window}
-use Rattle.ics_series.specs.declared.key.Key.{Key}
+use Rattle.ics_listing.specs.DayKeys.{day_key_rank, DayRank}
+use Rattle.ics_listing.specs.Tokens.{OneDaySpelling, OneSpelling}
+use Rattle.ics_listing.specs.Entry.{key_rank, Rank}
+use Rattle.ics_listing.specs.declared.day_key.DayKey.{DayKey}
+use Rattle.ics_listing.specs.declared.window.Window.{Window}
+use Rattle.ics_listing.specs.declared.key.Key.{Key}
 use Rattle.khal_list.specs.Agree.{Agree, LeavesHelpOpen, SameRequest, day_after}
 use Rattle.khal_words.specs.Entries.{Entries, day_format_text, entries_of, format_text, limit_text, span_of, refusal_of, IsRefused, AreTaken}
 use Rattle.khal_words.specs.Formats.{day_name, entry_name, IsFormat, OneFormat}

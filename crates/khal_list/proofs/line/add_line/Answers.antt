@@ -1,7 +1,7 @@
 use Rattle.std.proofs.lemmas.Grind.{common_steps}
 use Rattle.std.proofs.Common.{w32, arith}
 use Rattle.std.proofs.lemmas.Int.{to_z-of_z, ints}
-use Rattle.ics_series.specs.Entry.{entry_of}
+use Rattle.ics_listing.specs.Entry.{entry_of}
 use Rattle.khal_list.specs.Listed.{style_of}
 use Rattle.khal_list.specs.Text.{entry_field_text}
 use Rattle.khal_list.proofs.AddedLemmas.{two_added, whole_added}

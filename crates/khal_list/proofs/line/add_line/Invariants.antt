@@ -1,5 +1,5 @@
 use Rattle.std.proofs.Common.{◌≡◌, ◌++◌, drop}
-use Rattle.ics_series.specs.Entry.{entry_of}
+use Rattle.ics_listing.specs.Entry.{entry_of}
 use Rattle.khal_words.specs.Formats.{filled}
 use Rattle.khal_list.specs.Listed.{style_of}
 use Rattle.khal_list.specs.Text.{entry_field_text}

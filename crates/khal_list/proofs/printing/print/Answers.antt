@@ -1,7 +1,7 @@
 use Rattle.std.proofs.Common.{◌∙◌, refl, sym, ap}
 use Rattle.std.specs.Option.{option_map}
-use Rattle.ics_series.specs.declared.day_key.DayKey.{DayKey}
-use Rattle.ics_series.specs.Entry.{key_rank}
+use Rattle.ics_listing.specs.declared.day_key.DayKey.{DayKey}
+use Rattle.ics_listing.specs.Entry.{key_rank}
 use Rattle.khal_list.proofs.PutLemmas.{drew-once, front-once, key-once, text-once}
 use Rattle.khal_ports.proofs.Written.{on_err}
 use Rattle.khal_list.proofs.printing.print.Goals as goal

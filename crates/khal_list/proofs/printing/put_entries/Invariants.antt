@@ -1,6 +1,6 @@
 use Rattle.std.proofs.Common.{List}
 use Rattle.std.specs.Option.{option_map}
-use Rattle.ics_series.specs.OnDays.{day_rank_of, on_day_of, OnDay}
+use Rattle.ics_listing.specs.DayKeys.{day_rank_of, on_day_of, OnDay}
 use Rattle.khal_list.specs.Listed.{style_of}
 use Rattle.khal_list.proofs.Printed.{Printed}
 use Rattle.khal_list.proofs.printing.put_entries.Given as goal

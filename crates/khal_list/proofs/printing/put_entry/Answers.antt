@@ -1,7 +1,7 @@
 use Rattle.std.proofs.Common.{w32}
 use Rattle.std.proofs.lemmas.Int.{to_z-of_z}
 use Rattle.khal_ports.proofs.Written.{appends-none, on_err}
-use Rattle.ics_series.specs.Entry.{entry_of}
+use Rattle.ics_listing.specs.Entry.{entry_of}
 use Rattle.khal_list.specs.Listed.{style_of}
 use Rattle.khal_list.proofs.Printed.{entry_some}
 use Rattle.khal_list.proofs.printing.put_entry.Goals as goal

@@ -1,7 +1,7 @@
 use Rattle.std.proofs.Common.{IfOk, OnErr, map, subst, sym}
 use Rattle.std.specs.Option.{option_map}
 use Rattle.std.specs.String.{string_bytes}
-use Rattle.ics_event.specs.Event.{said_by}
+use Rattle.ics_file.specs.File.{said_by}
 use Rattle.khal_list.specs.Headline.{Shown, ShownInPart, ShowsBy}
 use Rattle.khal_list.proofs.running.list_folder.Goals as goal
 

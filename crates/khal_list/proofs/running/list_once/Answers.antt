@@ -1,7 +1,7 @@
 use Rattle.std.proofs.Common.{Some, inr, refl, ◌∙◌, ap, sym}
 use Rattle.std.specs.Option.{option_map}
-use Rattle.ics_series.specs.Entry.{key_rank}
-use Rattle.ics_series.specs.Tokens.{spelling}
+use Rattle.ics_listing.specs.Entry.{key_rank}
+use Rattle.ics_listing.specs.Tokens.{spelling}
 use Rattle.khal_list.proofs.RunLemmas.{shows-once, whole-front}
 use Rattle.khal_ports.proofs.Written.{on_err}
 use Rattle.khal_list.proofs.running.list_once.Goals as goal

@@ -1,7 +1,7 @@
 use Rattle.std.proofs.Common.{map}
 use Rattle.std.specs.Option.{option_map}
 use Rattle.std.specs.String.{string_bytes}
-use Rattle.ics_event.specs.Event.{said_by}
+use Rattle.ics_file.specs.File.{said_by}
 use Rattle.khal_list.specs.Headline.{Shows}
 use Rattle.khal_list.proofs.RunLemmas.{part-kept, shown-kept}
 use Rattle.khal_ports.proofs.Written.{on_err}

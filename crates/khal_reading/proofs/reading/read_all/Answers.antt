@@ -1,6 +1,6 @@
 use Rattle.std.proofs.Common.{◌≡◌, ◌≤◌, suc, length, map, [], slice_get, refl, sym, arith, ap, ◌∙◌}
 use Rattle.std.proofs.lemmas.Option.{get_or_from_slice_get}
-use Rattle.ics_event.specs.Event.{said_by}
+use Rattle.ics_file.specs.File.{said_by}
 use Rattle.khal_reading.specs.Gives.{name_at}
 use Rattle.khal_reading.proofs.OutcomeLemmas.{all-count}
 use Rattle.khal_reading.proofs.ReadLemmas.{done-none, done-more, read-some, stops-after}

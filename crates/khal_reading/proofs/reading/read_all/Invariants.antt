@@ -1,5 +1,5 @@
 use Rattle.std.proofs.Common.{◌≡◌, map}
-use Rattle.ics_event.specs.Event.{said_by}
+use Rattle.ics_file.specs.File.{said_by}
 use Rattle.khal_reading.proofs.ReadLemmas.{Done}
 use Rattle.khal_reading.proofs.reading.read_all.Given as goal
 

@@ -1,5 +1,5 @@
 use Rattle.std.proofs.Common.{sym, ap, ◌∙◌, ◌≡◌, subst, Err, IfOk}
-use Rattle.ics_event.specs.Event.{said_by}
+use Rattle.ics_file.specs.File.{said_by}
 use Rattle.ics_calendar.specs.Files.{SaysFile, UnresolvedSaid}
 use Rattle.ics_calendar.specs.Parts.{file_gives, NamedFile}
 use Rattle.ics_calendar.specs.Inner.SoundParts.{PartsSaid}

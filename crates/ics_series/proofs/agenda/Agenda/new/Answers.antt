@@ -1,8 +1,8 @@
 use Rattle.std.proofs.Common.{map, option_map, sym, subst}
 use Rattle.std.proofs.lemmas.Result.{IfOk-weaker}
-use Rattle.ics_event.specs.Event.{said_by}
+use Rattle.ics_file.specs.File.{said_by}
 use Rattle.ics_series.specs.Clocks.{display_clock}
-use Rattle.ics_series.specs.Entry.{key_rank}
+use Rattle.ics_listing.specs.Entry.{key_rank}
 use Rattle.ics_series.specs.Inner.Marks.{AreMarks}
 use Rattle.ics_series.specs.Versions.{seen}
 use Rattle.ics_series.proofs.MarkLemmas.{no-marks}

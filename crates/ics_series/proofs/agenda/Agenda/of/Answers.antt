@@ -1,10 +1,10 @@
 use Rattle.std.proofs.Common.{◌∙◌, [], ◌∷◌, ◌++◌, List, filter, map, ap, option_map, refl, sym, subst}
-use Rattle.ics_event.specs.Event.{said_by}
+use Rattle.ics_file.specs.File.{said_by}
 use Rattle.ics_series.specs.declared.part.Part.TheVariants as part
 use Rattle.ics_series.specs.Clocks.{display_clock}
-use Rattle.ics_series.specs.Entry.{entry_cmp, key_rank, Entry}
+use Rattle.ics_listing.specs.Entry.{entry_cmp, key_rank, Entry}
 use Rattle.ics_series.specs.AgendaParts.{part_coming}
-use Rattle.ics_series.specs.Listing.{IsListing}
+use Rattle.ics_listing.specs.Listing.{IsListing}
 use Rattle.ics_series.specs.Meets.{IsToCome}
 use Rattle.ics_series.specs.Overridden.{is_kept}
 use Rattle.ics_series.specs.Sources.{AreApart}

@@ -1,8 +1,8 @@
 use Rattle.std.proofs.Common.{arith, map}
 use Rattle.ics_series.specs.Overridden.{is_kept}
 use Rattle.ics_series.specs.Versions.{seen}
-use Rattle.ics_series.proofs.ListingLemmas.{filter-in}
-use Rattle.ics_series.specs.Leads.{listed, past}
+use Rattle.ics_listing.proofs.ListingLemmas.{filter-in}
+use Rattle.ics_listing.specs.Leads.{listed, past}
 use Rattle.ics_series.specs.AgendaParts.{part_coming}
 use Rattle.ics_series.proofs.HoldingLaws.{steps-of-leads, wider-bound}
 use Rattle.ics_series.proofs.agenda.Agenda.steps.Goals as goal

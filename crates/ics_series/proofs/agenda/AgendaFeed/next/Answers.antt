@@ -1,9 +1,9 @@
 use Rattle.std.proofs.Common.{◌≡◌, List, ◌∷◌, Bool, true, false, cond, filter, map, sym, ◌∙◌, ap, subst}
-use Rattle.ics_series.specs.Entry.{Entry}
-use Rattle.ics_series.specs.Listing.{IsIn}
+use Rattle.ics_listing.specs.Entry.{Entry}
+use Rattle.ics_listing.specs.Listing.{IsIn}
 use Rattle.ics_series.specs.Overridden.{is_kept}
 use Rattle.ics_series.specs.Versions.{seen}
-use Rattle.ics_series.proofs.ListingLemmas.{filter-in}
+use Rattle.ics_listing.proofs.ListingLemmas.{filter-in}
 use Rattle.ics_series.proofs.agenda.AgendaFeed.next.Goals as goal
 
 -- what a test leaves of a list, by its first

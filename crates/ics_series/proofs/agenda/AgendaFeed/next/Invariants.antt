@@ -1,10 +1,8 @@
-use Rattle.std.proofs.Common.{◌≡◌, length, map}
+use Rattle.std.proofs.Common.{◌≡◌, length}
 use Rattle.ics_series.specs.Ahead.{agenda_coming}
 use Rattle.ics_series.specs.AgendaParts.{part_coming}
 use Rattle.ics_series.specs.DaySteps.{agenda_sources}
-use Rattle.ics_series.specs.Entry.{entry_cmp}
-use Rattle.ics_series.specs.Leads.{listed, past}
-use Rattle.ics_series.specs.Merged.{merged}
+use Rattle.ics_listing.specs.Merges.{merge_coming}
 use Rattle.ics_series.proofs.agenda.AgendaFeed.next.Given as goal
 
 -- what was given and is replaced was not to come
@@ -15,5 +13,4 @@ invariant-loop-occurrence l = record {
 }
 
 abbrev pub decreases-loop-occurrence : goal.decreases-loop-occurrence
-decreases-loop-occurrence l =
-    length (merged entry_cmp (map (λ x. past l.self.merge.last (listed x.head (part_coming x.feed))) l.self.merge.leads.items))
+decreases-loop-occurrence l = length (merge_coming part_coming l.self.merge)

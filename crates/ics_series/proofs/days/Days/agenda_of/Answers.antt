@@ -1,9 +1,9 @@
 use Rattle.std.proofs.lemmas.Int.{int_min_is, ints}
 use Rattle.std.proofs.Common.{rules, ◌≡◌, map, inl, arith, to_z, of_z, w32}
-use Rattle.ics_event.specs.Event.{said_by}
+use Rattle.ics_file.specs.File.{said_by}
 use Rattle.ics_series.specs.Clocks.{display_clock}
 use Rattle.ics_series.specs.Versions.{seen}
-use Rattle.ics_series.proofs.Cases.{if-both}
+use Rattle.ics_listing.proofs.Cases.{if-both}
 use Rattle.ics_series.proofs.SpanLemmas.{are-spans, near-later}
 use Rattle.ics_series.proofs.days.Days.agenda_of.Goals as goal
 

@@ -1,13 +1,13 @@
 use Rattle.std.proofs.Common.{rules, ◌≡◌, ◌∙◌, length, map, refl, ap, arith, to_z, of_z, w32, ◌≤ℤ◌, option_map}
 use Rattle.std.proofs.lemmas.Int.{ints}
 use Rattle.std.proofs.lemmas.List.{length-map}
-use Rattle.ics_event.specs.Event.{said_by}
+use Rattle.ics_file.specs.File.{said_by}
 use Rattle.ics_zone.specs.Inner.Near.{offset_near}
 use Rattle.ics_series.specs.Ahead.{agenda_coming}
 use Rattle.ics_series.specs.Clocks.{display_clock}
 use Rattle.ics_series.specs.DaySteps.{agenda_sources, scope_in}
-use Rattle.ics_series.specs.Entry.{key_rank}
-use Rattle.ics_series.specs.OnDays.{first_near, day_key_rank}
+use Rattle.ics_listing.specs.Entry.{key_rank}
+use Rattle.ics_listing.specs.DayKeys.{first_near, day_key_rank}
 use Rattle.ics_series.specs.Versions.{seen}
 use Rattle.ics_series.proofs.AheadLemmas.{begun-ahead, begun-by, day-keys, first-masters, from-start}
 use Rattle.ics_series.proofs.MarkLemmas.{marks-none}

@@ -1,11 +1,11 @@
 use Rattle.std.proofs.Common.{unsigned_abs, ◌-ℤ◌, rules, ◌≡◌, ◌<◌, ◌∷◌, ℤ, map, None, sym, ◌∙◌, ap, subst, arith, to_z, of_z, w32, ◌≤ℤ◌, ◌<ℤ◌}
 use Rattle.std.proofs.lemmas.Int.{ints}
-use Rattle.ics_event.specs.Event.{said_by}
+use Rattle.ics_file.specs.File.{said_by}
 use Rattle.ics_zone.specs.Inner.Near.{offset_near}
 use Rattle.ics_series.specs.Ahead.{agenda_coming, IsAhead}
 use Rattle.ics_series.specs.Clocks.{display_clock}
-use Rattle.ics_series.specs.Entry.{entry_of}
-use Rattle.ics_series.specs.OnDays.{last_near, on_day}
+use Rattle.ics_listing.specs.Entry.{entry_of}
+use Rattle.ics_listing.specs.DayKeys.{last_near, on_day}
 use Rattle.ics_series.proofs.AheadLemmas.{ahead-ended, on-err}
 use Rattle.ics_series.proofs.days.Days.next.Goals as goal
 

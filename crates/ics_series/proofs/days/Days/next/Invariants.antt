@@ -1,6 +1,6 @@
 use Rattle.std.proofs.Common.{◌≡◌, ◌≤◌, ◌-ℤ◌, unsigned_abs, List}
 use Rattle.ics_series.specs.Ahead.{scope_of, IsAhead}
-use Rattle.ics_series.specs.OnDays.{OnDay}
+use Rattle.ics_listing.specs.DayKeys.{OnDay}
 use Rattle.ics_series.proofs.days.Days.next.Given as goal
 
 -- the days before have nothing more

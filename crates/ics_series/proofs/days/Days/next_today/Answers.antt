@@ -1,10 +1,10 @@
 use Rattle.std.proofs.Common.{◌≡◌, ◌&&◌, map, rules, sym, ◌∙◌, subst, to_z, of_z, w32}
 use Rattle.std.proofs.lemmas.Bool.{and_parts}
 use Rattle.ics_fields.specs.Days.{IsDayNumber}
-use Rattle.ics_event.specs.Event.{said_by}
+use Rattle.ics_file.specs.File.{said_by}
 use Rattle.ics_series.specs.Ahead.{agenda_coming}
 use Rattle.ics_series.specs.Clocks.{display_clock}
-use Rattle.ics_series.specs.Entry.{entry_of}
+use Rattle.ics_listing.specs.Entry.{entry_of}
 use Rattle.ics_series.proofs.AheadLemmas.{ahead-given, ahead-skipped}
 use Rattle.ics_series.proofs.days.Days.next_today.Goals as goal
 

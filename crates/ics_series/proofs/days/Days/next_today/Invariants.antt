@@ -1,6 +1,6 @@
 use Rattle.std.proofs.Common.{◌≡◌, List, length}
 use Rattle.ics_series.specs.Ahead.{agenda_coming, scope_of, IsAhead}
-use Rattle.ics_series.specs.OnDays.{OnDay}
+use Rattle.ics_listing.specs.DayKeys.{OnDay}
 use Rattle.ics_series.proofs.days.Days.next_today.Given as goal
 
 -- what is skipped is none of the day's

@@ -2,7 +2,8 @@ use Rattle.std.proofs.Common.{◌≡◌, false, w32, w64, to_z, of_z, is_ok, ref
 use Rattle.std.specs.List.{list_any}
 use Rattle.std.specs.List.Sorted.{IsSorted}
 use Rattle.std.proofs.lemmas.Int.{ints}
-use Rattle.ics_series.specs.Clocks.{Clock, clock_of}
+use Rattle.ics_listing.specs.FileClocks.{Clock}
+use Rattle.ics_series.specs.Clocks.{clock_of}
 use Rattle.ics_series.specs.Exclusions.{is_among, shown_day}
 use Rattle.ics_series.specs.FileZones.{clocks_in}
 use Rattle.ics_series.proofs.ExclusionLemmas.{found-in}

@@ -7,7 +7,7 @@ use Rattle.jiff_core.specs.Calendar.{IsBetween, IsWithin}
 use Rattle.ics_fields.specs.Locals.{day_of_local, year_seconds}
 use Rattle.ics_series.specs.Clocks.{local_at}
 use Rattle.ics_series.proofs.ExclusionLemmas.{found-in}
-use Rattle.ics_series.proofs.NearDayLemmas.{day-under}
+use Rattle.ics_listing.proofs.NearLemmas.{day-under}
 use Rattle.ics_series.proofs.exclusion.Exclusions.skips.Goals as goal
 
 pub of_seconds-local-requires : goal.of_seconds-local-requires

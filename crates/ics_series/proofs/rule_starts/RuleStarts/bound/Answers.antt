@@ -3,7 +3,7 @@ use Rattle.std.proofs.lemmas.Grind.{common_steps}
 use Rattle.std.proofs.lemmas.Int.{ints}
 use Rattle.std.proofs.lemmas.List.{length-map}
 use Rattle.ics_series.specs.RuleFeed.{held_in, settled_in}
-use Rattle.ics_series.specs.Waiting.{start_of, waiting_in}
+use Rattle.ics_listing.specs.Waiting.{start_of, waiting_in}
 use Rattle.ics_series.proofs.SeriesLemmas.{none-in}
 use Rattle.ics_series.proofs.SettledLemmas.{settled-late}
 use Rattle.ics_series.proofs.RuleStepLemmas.{behind-early, day-days, end-days, held-on, next-late}

@@ -1,7 +1,7 @@
 use Rattle.std.proofs.Common.{◌≡◌, Some, List, slice_get, sym, ◌∙◌, ap}
 use Rattle.ics_event.specs.declared.event.Event.{Event}
-use Rattle.ics_series.specs.Waiting.{start_of, waiting_in}
-use Rattle.ics_series.specs.declared.start.Start.{Start}
+use Rattle.ics_listing.specs.Waiting.{start_of, waiting_in}
+use Rattle.ics_listing.specs.declared.start.Start.{Start}
 use Rattle.ics_series.proofs.QueueLemmas.{none-start, some-start}
 use Rattle.ics_series.proofs.rule_starts.RuleStarts.first.Goals as goal
 

@@ -1,7 +1,7 @@
 use Rattle.std.proofs.Common.{rules, w64, to_z, of_z, ◌≡◌, ◌∙◌, sym, arith, SFits}
 use Rattle.std.proofs.lemmas.Int.{int_min_is, ints}
 use Rattle.ics_series.specs.RuleFeed.{held_in, settled_in}
-use Rattle.ics_series.proofs.FirstLemmas.{first-least, none-first}
+use Rattle.ics_listing.proofs.FirstLemmas.{first-least, none-first}
 use Rattle.ics_series.proofs.RuleStepLemmas.{left-from}
 use Rattle.ics_series.proofs.rule_starts.RuleStarts.from.Goals as goal
 

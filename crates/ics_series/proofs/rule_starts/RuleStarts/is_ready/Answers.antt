@@ -2,8 +2,8 @@ use Rattle.std.proofs.Common.{◌≡◌, List, rules, w64, to_z, of_z, sym, ◌�
 use Rattle.std.proofs.lemmas.Int.{ints}
 use Rattle.ics_series.specs.RuleFeed.{settled_in}
 use Rattle.ics_series.specs.RuleStarts.{is_ready}
-use Rattle.ics_series.specs.Waiting.{waiting_in}
-use Rattle.ics_series.specs.declared.start.Start.{Start}
+use Rattle.ics_listing.specs.Waiting.{waiting_in}
+use Rattle.ics_listing.specs.declared.start.Start.{Start}
 use Rattle.ics_series.proofs.QueueLemmas.{none-start, some-ready}
 use Rattle.ics_series.proofs.rule_starts.RuleStarts.is_ready.Goals as goal
 

@@ -6,16 +6,17 @@ use Rattle.ics_rule.specs.Cursors.{place_of}
 use Rattle.ics_event.specs.declared.event.Event.{Event}
 use Rattle.ics_fields.specs.Locals.{local_seconds, midnight, number, whole_days}
 use Rattle.ics_series.specs.Clocks.{clock_of, IsBounded}
-use Rattle.ics_series.specs.Found.{moment_cmp}
+use Rattle.ics_listing.specs.StartOrder.{moment_cmp}
 use Rattle.ics_series.specs.Leeway.{seconds_off}
-use Rattle.ics_series.specs.Listing.{IsIn}
-use Rattle.ics_series.specs.declared.window.Window.{Window}
-use Rattle.ics_series.specs.Rising.{Rises}
+use Rattle.ics_listing.specs.Listing.{IsIn}
+use Rattle.ics_listing.specs.declared.window.Window.{Window}
+use Rattle.ics_listing.specs.Rising.{Rises}
 use Rattle.ics_series.proofs.RuleDayLemmas.{come-empty}
 use Rattle.ics_series.specs.RuleStarts.{ends_at, HasLookedTo}
-use Rattle.ics_series.specs.Waiting.{start_of, starts_in}
-use Rattle.ics_series.specs.Starts.{local_of}
-use Rattle.ics_series.proofs.StartSourceLemmas.{calendar-day, own-day, rule-first}
+use Rattle.ics_listing.specs.Waiting.{start_of, starts_in}
+use Rattle.ics_listing.specs.StartTimes.{local_of}
+use Rattle.ics_listing.proofs.StartOrderLemmas.{calendar-day, own-day}
+use Rattle.ics_series.proofs.StartSourceLemmas.{rule-first}
 use Rattle.ics_series.proofs.SettledLemmas.{off-range}
 use Rattle.ics_series.specs.FileZones.{clocks_in, IsTimeOf}
 use Rattle.ics_series.specs.Inner.Quiet.{AreBeyond}

@@ -1,12 +1,13 @@
 use Rattle.std.proofs.Common.{◌≡◌, List, drop, map, sym, ◌∙◌, ap, subst, arith, rules, w64, of_z, SFits}
 use Rattle.std.proofs.lemmas.Int.{ints}
-use Rattle.ics_series.specs.Found.{moment_cmp}
-use Rattle.ics_series.specs.Listing.{IsIn}
-use Rattle.ics_series.specs.Rising.{Rises}
+use Rattle.ics_listing.specs.StartOrder.{moment_cmp}
+use Rattle.ics_listing.specs.Listing.{IsIn}
+use Rattle.ics_listing.specs.Rising.{Rises}
 use Rattle.ics_series.specs.RuleFeed.{held_in}
-use Rattle.ics_series.specs.Waiting.{start_of, starts_in, waiting_in}
-use Rattle.ics_series.specs.declared.queue.Waiting.{Waiting}
-use Rattle.ics_series.proofs.QueueLemmas.{cut-waiting, drop-starts, in-drop, none-waiting, rises-drop, uncut-waiting}
+use Rattle.ics_listing.specs.Waiting.{start_of, starts_in, waiting_in}
+use Rattle.ics_listing.specs.declared.queue.Waiting.{Waiting}
+use Rattle.ics_series.proofs.QueueLemmas.{cut-waiting, drop-starts, none-waiting, uncut-waiting}
+use Rattle.ics_listing.proofs.WaitingLemmas.{in-drop, rises-drop}
 use Rattle.ics_series.proofs.RuleStepLemmas.{passed-left}
 use Rattle.ics_series.proofs.rule_starts.RuleStarts.pass.Goals as goal
 

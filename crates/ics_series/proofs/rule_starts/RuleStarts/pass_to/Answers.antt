@@ -1,11 +1,11 @@
-use Rattle.std.proofs.Common.{◌≡◌, ◌+ℤ◌, ◌<ℤ◌, ◌≤ℤ◌, refl, arith, w64, to_z, of_z, ℤ, SFits}
+use Rattle.std.proofs.Common.{◌≡◌, ◌+ℤ◌, ◌<ℤ◌, ◌≤ℤ◌, refl, arith, w64, to_z, of_z, SFits}
 use Rattle.std.proofs.lemmas.Int.{int_min_is, ints}
 use Rattle.ics_fields.specs.Locals.{local_seconds}
 use Rattle.ics_series.specs.declared.rule_starts.RuleStarts.{RuleStarts}
 use Rattle.ics_series.proofs.QuietLemmas.{beyond-passed}
 use Rattle.ics_series.proofs.RuleStepLemmas.{next-years, passed-day}
 use Rattle.ics_series.proofs.SettledLemmas.{early-local}
-use Rattle.ics_series.proofs.StartSourceLemmas.{number-seconds}
+use Rattle.ics_listing.proofs.StartOrderLemmas.{number-seconds}
 use Rattle.ics_series.proofs.rule_starts.RuleStarts.pass_to.Goals as goal
 
 -- the window's end by the least offset

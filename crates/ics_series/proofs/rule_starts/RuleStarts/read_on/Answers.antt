@@ -1,11 +1,11 @@
 use Rattle.std.proofs.Common.{◌≡◌, refl, sym, subst, arith, rules, w64, SFits}
 use Rattle.std.proofs.lemmas.Int.{ints}
-use Rattle.ics_series.specs.Found.{moment_cmp}
-use Rattle.ics_series.specs.Rising.{Rises}
+use Rattle.ics_listing.specs.StartOrder.{moment_cmp}
+use Rattle.ics_listing.specs.Rising.{Rises}
 use Rattle.ics_series.specs.RuleStarts.{AreHeld}
 use Rattle.ics_series.specs.FileZones.{clocks_in}
 use Rattle.ics_series.specs.RuleFeed.{held_in}
-use Rattle.ics_series.specs.Waiting.{starts_in}
+use Rattle.ics_listing.specs.Waiting.{starts_in}
 use Rattle.ics_series.proofs.QuietLemmas.{beyond-none, beyond-one}
 use Rattle.ics_series.proofs.RuleStepLemmas.{bound-days, bound-early, none-read, one-read, one-time}
 use Rattle.ics_series.proofs.rule_starts.RuleStarts.read_on.Goals as goal

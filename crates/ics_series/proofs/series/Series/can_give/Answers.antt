@@ -1,5 +1,5 @@
 use Rattle.std.proofs.Common.{◌≡◌, ◌∙◌, Option, Some, None, true, false, is_some, option_map, refl, sym}
-use Rattle.ics_series.specs.Entry.{entry_of}
+use Rattle.ics_listing.specs.Entry.{entry_of}
 use Rattle.ics_series.proofs.series.Series.can_give.Goals as goal
 
 none-mapped : {X Y : Type 0} (f : X → Y) (o : Option X) → is_some o ≡ false → option_map f o ≡ None

@@ -13,30 +13,32 @@ use Rattle.ics_event.specs.declared.event.Event.{Event}
 use Rattle.ics_event.specs.Event.{Rdate}
 use Rattle.ics_zone.proofs.Cases.{true_int_lt}
 use Rattle.ics_series.specs.declared.rule_starts.RuleStarts.{RuleStarts}
-use Rattle.ics_series.specs.declared.start.StartSource.{StartSource}
-use Rattle.ics_series.specs.declared.start.StartSource.TheVariants.{Kept, Listed}
-use Rattle.ics_series.specs.declared.start.Start.{Start}
-use Rattle.ics_series.specs.declared.window.Window.{Window}
+use Rattle.ics_listing.specs.declared.start.StartSource.{StartSource}
+use Rattle.ics_listing.specs.declared.start.StartSource.TheVariants.{Kept, Listed}
+use Rattle.ics_listing.specs.declared.start.Start.{Start}
+use Rattle.ics_listing.specs.declared.window.Window.{Window}
 use Rattle.ics_series.specs.declared.zones.FileZones.{FileZones}
-use Rattle.ics_series.specs.Clocks.{Clocks, instant}
-use Rattle.ics_series.specs.Entry.{Entry, entry_cmp}
-use Rattle.ics_series.specs.Found.{listed_from, moment_cmp, start_at, start_by, AreFirsts, AreStartsSince, HasStart, IsSought, IsStart, IsStartIn}
-use Rattle.ics_series.specs.Listing.{IsIn, IsListing}
+use Rattle.ics_listing.specs.FileClocks.{Clocks}
+use Rattle.ics_series.specs.Clocks.{instant}
+use Rattle.ics_listing.specs.Entry.{Entry, entry_cmp}
+use Rattle.ics_series.specs.Found.{listed_from, start_at, start_by, AreStartsSince, IsSought, IsStart, IsStartIn}
+use Rattle.ics_listing.specs.StartOrder.{moment_cmp, AreFirsts, HasStart}
+use Rattle.ics_listing.specs.Listing.{IsIn, IsListing}
 use Rattle.ics_series.specs.Meeting.{entry_from}
 use Rattle.ics_series.specs.Meets.{Meets}
-use Rattle.ics_series.specs.Merged.{union}
-use Rattle.ics_series.specs.Inner.MergedLaws.{rises-union}
-use Rattle.ics_series.specs.Rising.{Rises}
+use Rattle.ics_listing.specs.Merged.{union}
+use Rattle.ics_listing.specs.Inner.MergedLaws.{rises-union}
+use Rattle.ics_listing.specs.Rising.{Rises}
 use Rattle.ics_series.specs.RuleFeed.{starts_left}
 use Rattle.ics_series.specs.RuleStarts.{found, found_in, gives, lets_until, local_numbered, moment_numbered}
 use Rattle.ics_series.specs.SeriesStarts.{listed_apart, rule_left, HasRuled, IsRuleFrom, IsSeriesMet, given_of, left}
-use Rattle.ics_series.specs.SeriesStarts.{listed_left}
-use Rattle.ics_series.specs.Starts.{local_of, recurrence_by, time_at, time_of, GivesStart, IsRuleStart}
+use Rattle.ics_listing.specs.KnownStarts.{listed_left}
+use Rattle.ics_listing.specs.StartTimes.{local_of, time_at, time_of}
+use Rattle.ics_series.specs.Starts.{recurrence_by, GivesStart, IsRuleStart}
 use Rattle.ics_series.specs.FileZones.{clocks_in, IsOwnEvent}
-use Rattle.ics_series.proofs.FirstLemmas.{moment_total}
-use Rattle.ics_series.proofs.StartSourceLemmas.{calendar-day, own-day}
-use Rattle.ics_series.proofs.StartSourceLemmas.{gives-below, gives-kept, gives-value, kept-calendar, kept-ruled, number-numbered, number-seconds}
-use Rattle.ics_series.proofs.StartSourceLemmas.{numbered-number, ruled-kept, written-at}
+use Rattle.ics_listing.proofs.FirstLemmas.{moment_total}
+use Rattle.ics_listing.proofs.StartOrderLemmas.{calendar-day, own-day, number-seconds, written-at}
+use Rattle.ics_series.proofs.StartSourceLemmas.{gives-below, gives-kept, gives-value, kept-calendar, kept-ruled, number-numbered, numbered-number, ruled-kept}
 use Rattle.ics_series.proofs.InstantLemmas.{instant-near}
 use Rattle.ics_series.proofs.SeriesLemmas.{has-union, put-has, union-has, in-moment, rises-rule, own-rule-as, series-listing}
 use Rattle.ics_series.proofs.SoughtLemmas.{listed-in}
@@ -44,11 +46,11 @@ use Rattle.ics_series.proofs.VersionLemmas.{same-entry}
 use Rattle.ics_series.proofs.RuleDayLemmas.{found-is, given-parts, in-rules, put-both, seconds-numbered}
 use Rattle.ics_series.proofs.SoughtLemmas.{late-event, listed-there, none-else, sought-early, sought-from}
 use Rattle.ics_series.proofs.RawLemmas.{kept-first}
-use Rattle.ics_series.proofs.UnionLemmas.{itself-put, union-in}
-use Rattle.ics_series.proofs.Cases.{here-or-later}
+use Rattle.ics_listing.proofs.UnionLemmas.{itself-put, union-in}
+use Rattle.ics_listing.proofs.Cases.{here-or-later}
 use Rattle.std.proofs.lemmas.List.Elements.{Contains-get_or}
 use Rattle.ics_series.specs.SeriesFeed.{source_of}
-use Rattle.ics_series.proofs.ListingLemmas.{in-contains}
+use Rattle.ics_listing.proofs.ListingLemmas.{in-contains}
 use Rattle.ics_series.proofs.series.Series.new.Goals as goal
 
 -- The starts of a series: all that are sought from an instant on are among them.

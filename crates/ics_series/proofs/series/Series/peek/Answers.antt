@@ -1,8 +1,9 @@
 use Rattle.std.proofs.Common.{◌≡◌, Some, None, Option, List, slice_get, sym, ap}
-use Rattle.ics_series.specs.declared.start.Start.{Start}
-use Rattle.ics_series.specs.Found.{moment_cmp}
-use Rattle.ics_series.specs.Merged.{union}
-use Rattle.ics_series.specs.SeriesStarts.{listed_left, rule_left, IsFirstOf}
+use Rattle.ics_listing.specs.declared.start.Start.{Start}
+use Rattle.ics_listing.specs.StartOrder.{moment_cmp}
+use Rattle.ics_listing.specs.Merged.{union}
+use Rattle.ics_listing.specs.KnownStarts.{listed_left}
+use Rattle.ics_series.specs.SeriesStarts.{rule_left, IsFirstOf}
 use Rattle.ics_series.proofs.SeriesLemmas.{read, rises-listed, rises-rule}
 use Rattle.ics_series.proofs.series.Series.peek.Goals as goal
 

@@ -1,10 +1,10 @@
 use Rattle.std.proofs.Common.{◌≡◌, [], ◌∷◌, ◌∙◌, suc, length, List, Option, Some, None, slice_get, refl, rules, sym}
 use Rattle.std.proofs.Common.{ap, arith}
-use Rattle.ics_series.specs.declared.start.Start.{Start}
+use Rattle.ics_listing.specs.declared.start.Start.{Start}
 use Rattle.ics_series.specs.SeriesFeed.{series_left, series_of}
 use Rattle.ics_series.specs.SeriesStarts.{IsTaken}
-use Rattle.ics_series.proofs.Cases.{some-same}
-use Rattle.ics_series.proofs.ListingLemmas.{get-in}
+use Rattle.ics_listing.proofs.Cases.{some-same}
+use Rattle.ics_listing.proofs.ListingLemmas.{get-in}
 use Rattle.ics_series.proofs.SameLemmas.{both-same, dropped, same-coming}
 use Rattle.ics_series.proofs.series.Series.settle.Goals as goal
 

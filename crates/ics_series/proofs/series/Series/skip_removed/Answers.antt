@@ -1,9 +1,9 @@
 use Rattle.std.proofs.Common.{◌≡◌, ◌∙◌, refl, sym, ap, subst, ℤ}
 use Rattle.ics_event.specs.declared.event.Event.{Event}
 use Rattle.ics_values.specs.declared.stamp.Stamp.TheVariants.{Date}
-use Rattle.ics_series.specs.Entry.{entry_cmp}
+use Rattle.ics_listing.specs.Entry.{entry_cmp}
 use Rattle.ics_series.specs.FileZones.{clocks_in}
-use Rattle.ics_series.specs.Rising.{Rises}
+use Rattle.ics_listing.specs.Rising.{Rises}
 use Rattle.ics_series.specs.SeriesStarts.{first_of}
 use Rattle.ics_series.proofs.RemovedLemmas.{skipped}
 use Rattle.ics_series.proofs.SeriesLemmas.{own-rule-same}

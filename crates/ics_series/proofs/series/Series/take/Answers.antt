@@ -1,16 +1,17 @@
 use Rattle.std.proofs.Common.{◌≡◌, [], ◌∷◌, Option, sym, ◌∙◌, ap, refl, subst}
 use Rattle.ics_series.specs.declared.rule_starts.RuleStarts.{RuleStarts}
 use Rattle.ics_series.specs.declared.series.Series.{Series}
-use Rattle.ics_series.specs.Entry.{Entry}
-use Rattle.ics_series.specs.Found.{moment_cmp}
-use Rattle.ics_series.specs.Listing.{IsIn}
-use Rattle.ics_series.specs.Merged.{union}
+use Rattle.ics_listing.specs.Entry.{Entry}
+use Rattle.ics_listing.specs.StartOrder.{moment_cmp}
+use Rattle.ics_listing.specs.Listing.{IsIn}
+use Rattle.ics_listing.specs.Merged.{union}
 use Rattle.ics_series.specs.SeriesFeed.{series_left, series_of}
-use Rattle.ics_series.specs.SeriesStarts.{first_of, left, listed_left, rule_asked, rule_left, HasSameRule, IsAskedNear}
+use Rattle.ics_series.specs.SeriesStarts.{first_of, left, rule_asked, rule_left, HasSameRule, IsAskedNear}
+use Rattle.ics_listing.specs.KnownStarts.{listed_left}
 use Rattle.ics_series.specs.FileZones.{clocks_in}
-use Rattle.ics_series.specs.Inner.MergedLaws.{rises-union}
-use Rattle.ics_series.proofs.BeginsLemmas.{in-cut}
-use Rattle.ics_series.proofs.FirstLemmas.{moment_total}
+use Rattle.ics_listing.specs.Inner.MergedLaws.{rises-union}
+use Rattle.ics_listing.proofs.BeginsLemmas.{in-cut}
+use Rattle.ics_listing.proofs.FirstLemmas.{moment_total}
 use Rattle.ics_series.proofs.SameLemmas.{same-rule}
 use Rattle.ics_series.proofs.SeriesLemmas.{asked-near, both-passed, given-own, own-rule-same, read, rest-of, rises-listed, rises-rest, rises-rule, ruled-rest}
 use Rattle.ics_series.proofs.series.Series.take.Goals as goal

@@ -3,16 +3,18 @@ use Rattle.std.proofs.Common.{ap, subst, arith}
 use Rattle.std.proofs.lemmas.Int.{ints}
 use Rattle.std.proofs.lemmas.Option.{cond_some}
 use Rattle.ics_event.specs.declared.event.Event.{Event}
-use Rattle.ics_series.specs.declared.occurrence.Occurrence.{Occurrence}
-use Rattle.ics_series.specs.declared.start.Start.{Start}
-use Rattle.ics_series.specs.declared.window.Window.{Window}
-use Rattle.ics_series.specs.Clocks.{Clocks, clock_of, instant}
-use Rattle.ics_series.specs.Entry.{Entry, entry_of}
+use Rattle.ics_listing.specs.declared.occurrence.Occurrence.{Occurrence}
+use Rattle.ics_listing.specs.declared.start.Start.{Start}
+use Rattle.ics_listing.specs.declared.window.Window.{Window}
+use Rattle.ics_listing.specs.FileClocks.{Clocks}
+use Rattle.ics_series.specs.Clocks.{clock_of, instant}
+use Rattle.ics_listing.specs.Entry.{Entry, entry_of}
 use Rattle.ics_series.specs.Exclusions.{is_excluded, takes_out, AreExclusions}
 use Rattle.ics_series.specs.Found.{met_by}
-use Rattle.ics_series.specs.Meeting.{entry_from, is_met}
+use Rattle.ics_series.specs.Meeting.{entry_from}
+use Rattle.ics_listing.specs.WindowMeeting.{is_met}
 use Rattle.ics_series.specs.SeriesStarts.{wanted_by}
-use Rattle.ics_series.specs.Starts.{time_of}
+use Rattle.ics_listing.specs.StartTimes.{time_of}
 use Rattle.ics_series.specs.FileZones.{clocks_in}
 use Rattle.ics_series.proofs.NearDayLemmas.{is_met-meets}
 use Rattle.ics_zone.proofs.Cases.{true_int_le}

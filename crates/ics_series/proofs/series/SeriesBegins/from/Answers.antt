@@ -1,12 +1,13 @@
 use Rattle.std.proofs.Common.{⊎_elim, arith}
 use Rattle.std.proofs.lemmas.Int.{int_max_is, int_min_is, ints}
 use Rattle.ics_series.specs.FileZones.{clocks_in}
-use Rattle.ics_series.specs.Found.{moment_cmp}
+use Rattle.ics_listing.specs.StartOrder.{moment_cmp}
 use Rattle.ics_series.specs.SeriesFeed.{series_left, series_of}
-use Rattle.ics_series.specs.SeriesStarts.{listed_left, rule_left}
-use Rattle.ics_series.proofs.FirstLemmas.{moment_total}
+use Rattle.ics_listing.specs.KnownStarts.{listed_left}
+use Rattle.ics_series.specs.SeriesStarts.{rule_left}
+use Rattle.ics_listing.proofs.FirstLemmas.{moment_total}
 use Rattle.ics_series.proofs.SeriesLemmas.{given-own, given-start, rises-listed, rule-near}
-use Rattle.ics_series.proofs.UnionLemmas.{union-in}
+use Rattle.ics_listing.proofs.UnionLemmas.{union-in}
 use Rattle.ics_series.proofs.series.SeriesBegins.from.Goals as goal
 
 pub returns-clause-from : goal.returns-clause-from

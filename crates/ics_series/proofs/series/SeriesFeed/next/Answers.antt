@@ -1,7 +1,7 @@
 use Rattle.std.proofs.lemmas.Grind.{common_steps}
 use Rattle.std.proofs.Common.{◌≡◌, ◌∷◌, ◌∙◌, suc, length, option_map, None, ap, rules, sym, subst, arith}
-use Rattle.ics_series.specs.Entry.{entry_of}
-use Rattle.ics_series.specs.Listing.{IsIn}
+use Rattle.ics_listing.specs.Entry.{entry_of}
+use Rattle.ics_listing.specs.Listing.{IsIn}
 use Rattle.ics_series.specs.SeriesFeed.{series_left}
 use Rattle.ics_series.proofs.SameLemmas.{dropped, same-sources, same-wanted}
 use Rattle.ics_series.proofs.series.SeriesFeed.next.Goals as goal

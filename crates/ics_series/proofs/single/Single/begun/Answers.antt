@@ -6,7 +6,7 @@ use Rattle.ics_event.specs.declared.event.Event.{Event}
 use Rattle.ics_series.specs.Clocks.{instant}
 use Rattle.ics_series.specs.FileZones.{clocks_in, IsTimeOf}
 use Rattle.ics_series.proofs.ZoneLemmas.{own-event}
-use Rattle.ics_series.proofs.Cases.{moment-back}
+use Rattle.ics_listing.proofs.Cases.{moment-back}
 use Rattle.ics_series.proofs.single.Single.begun.Goals as goal
 
 pub instant-start-requires : goal.instant-start-requires

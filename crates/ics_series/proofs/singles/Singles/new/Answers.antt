@@ -1,12 +1,12 @@
 use Rattle.std.proofs.Common.{◌≡◌, true, map, rules, option_map}
 use Rattle.std.specs.Ordering.{on}
 use Rattle.std.proofs.lemmas.Cmp.{on_total}
-use Rattle.ics_series.specs.Entry.{entry_cmp, key_rank}
+use Rattle.ics_listing.specs.Entry.{entry_cmp, key_rank}
 use Rattle.ics_series.specs.Singles.{is_single, single_entry}
-use Rattle.ics_series.specs.Inner.EntryLaws.{entry_total}
+use Rattle.ics_listing.specs.Inner.EntryLaws.{entry_total}
 use Rattle.ics_series.proofs.OverrideLemmas.{overrides-sorted}
 use Rattle.ics_series.proofs.SinglesLemmas.{singles-listing}
-use Rattle.ics_series.proofs.ListingLemmas.{climbs-by, in-all}
+use Rattle.ics_listing.proofs.ListingLemmas.{climbs-by, in-all}
 use Rattle.ics_series.proofs.singles.Singles.new.Goals as goal
 
 pub to_come-requires-clause-overrides : goal.to_come-requires-clause-overrides

@@ -2,9 +2,9 @@ use Rattle.std.proofs.Common.{◌≡◌, ◌<◌, List, map, length, get_or, tru
 use Rattle.std.proofs.Common.{option_and_then}
 use Rattle.std.proofs.lemmas.Option.{get_or_from_slice_get, slice_get-map, slice_get_within}
 use Rattle.ics_zone.specs.ZoneSaid.{zone_said}
-use Rattle.ics_event.specs.Event.{said_by, FileSaid, FileSeen, IsEventOf}
+use Rattle.ics_file.specs.File.{said_by, FileSaid, FileSeen, IsEventOf}
 use Rattle.ics_event.specs.declared.event.Event.{Event}
-use Rattle.ics_event.specs.declared.events.FileEvents.{FileEvents}
+use Rattle.ics_file.specs.declared.events.FileEvents.{FileEvents}
 use Rattle.ics_series.specs.declared.spot.Spot.{Spot}
 use Rattle.ics_series.specs.PlacedEvents.{zones_in, zones_of}
 use Rattle.ics_series.specs.Spots.{event_at}

@@ -1,6 +1,6 @@
 use Rattle.std.proofs.Common.{◌∙◌, List, Some, map, ap}
 use Rattle.std.proofs.lemmas.Simd.{map-map}
-use Rattle.ics_event.specs.Event.{said_by}
+use Rattle.ics_file.specs.File.{said_by}
 use Rattle.khal_reading.specs.Errors.{Refusal}
 use Rattle.khal_reading.specs.Gives.{ReadGives, in_parts}
 use Rattle.khal_reading.specs.Inner.Outcomes.{refusal_by, refusal_of}

@@ -1,5 +1,0 @@
-use Rattle.ics_event.proofs.KeptLemmas.{events-kept}
-use Rattle.ics_event.proofs.events.FileEvents.kept.Goals as goal
-
-pub invariant_of-result : goal.invariant_of-result
-invariant_of-result c = rw c.in_ok-events.ensures (events-kept c.args.keep _ _ c.self.invariant)

@@ -1,0 +1,12 @@
+pub mod BeginsLemmas
+pub mod Cases
+pub mod FirstLemmas
+pub mod StartOrderLemmas
+pub mod LeadLemmas
+pub mod ListingLemmas
+pub mod NearLemmas
+pub mod WaitingLemmas
+pub mod TokenLemmas
+pub mod TournamentLemmas
+pub mod UidOrderLemmas
+pub mod UnionLemmas

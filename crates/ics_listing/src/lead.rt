@@ -1,0 +1,88 @@
+//! A feed whose first occurrence is known, or from when on it gives any.
+ghost use Rattle.std.specs.Prelude.{◌≡◌, ◌-◌, ◌^◌, None, length, min, IfOk, OnErr, OnOk};
+ghost use Rattle.std.specs.Option.{option_map};
+ghost use Rattle.ics_listing.specs.Leads.{listed, AreNear, IsAhead, IsAhead-prop};
+ghost use Rattle.ics_listing.specs.Inner.Tournament.{turn_of};
+
+use crate::feed::{Begins, Coming, Feed};
+use crate::holding::Holding;
+use crate::occurrence::Occurrence;
+use ics_values::Moment;
+use std::alloc::AllocError;
+
+/// A feed and the first occurrence still to come, once it was drawn from it.
+#[derive(Drop)]
+pub(crate) struct Lead<'a, F: Coming> {
+    pub(crate) feed: F,
+    // As long as nothing was drawn, an instant before which no occurrence starts.
+    pub(crate) unread: Option<Moment>,
+    // None if nothing was drawn, or nothing is left.
+    pub(crate) head: Option<Occurrence<'a>>,
+    pub(crate) ghost ahead: { IsAhead unread head (F.coming feed) } by { IsAhead-prop unread head (F.coming feed) },
+}
+
+impl<'a, F: Coming> Lead<'a, F> {
+    // The start of the first occurrence or, as long as that is not known, an instant that is no later; None
+    // if nothing is left.
+    pub(crate) fn from(&self) -> Option<Moment>
+        ensures { result ≡ option_map (λ turn. turn.start) (turn_of self.now.unread self.now.head) }
+    {
+        match (self.unread, &self.head) {
+            (Some(from), _) => Some(from),
+            (None, Some(head)) => Some(head.start),
+            (None, None) => None,
+        }
+    }
+}
+
+impl<'a, F: Feed<'a> + Begins + Drop> Lead<'a, F> {
+    // The lead of a feed, which is read at once if it begins by an instant.
+    pub(crate) fn new(mut feed: F, soon: Moment) -> Result<Lead<'a, F>, AllocError>
+        ensures list { IfOk result (λ lead. listed lead.head (F.coming lead.feed) ≡ F.coming feed) }
+        ensures sources { IfOk result (λ lead. F.sources lead.feed ≡ F.sources feed) }
+        ensures near { IfOk result (λ lead. AreNear (F.near lead.feed) (F.coming feed)) }
+    {
+        let from = feed.from();
+        if from > soon {
+            return Ok(Lead {
+                feed,
+                unread: Some(from),
+                head: None,
+            });
+        }
+        let head = feed.next()?;
+        Ok(Lead {
+            feed,
+            unread: None,
+            head,
+        })
+    }
+}
+
+impl<'a, F: Feed<'a>> Lead<'a, F> {
+    // Drops what was drawn and draws the next.
+    pub(crate) fn draw(&mut self) -> Result<(), AllocError>
+        ensures drawn { OnOk result (listed self.new.head (F.coming self.new.feed) ≡ F.coming self.old.feed) }
+        ensures read { OnOk result (self.new.unread ≡ None) }
+        ensures unread { OnErr result (self.new.unread ≡ self.old.unread) }
+        ensures head { OnErr result (self.new.head ≡ self.old.head) }
+        ensures rest { OnErr result (F.coming self.new.feed ≡ F.coming self.old.feed) }
+        ensures sources { F.sources self.new.feed ≡ F.sources self.old.feed }
+        ensures near { AreNear (F.near self.new.feed) (F.coming self.old.feed) }
+    {
+        let next = self.feed.next()?;
+        self.unread = None;
+        self.head = next;
+        Ok(())
+    }
+}
+
+impl<'a, F: Holding> Lead<'a, F> {
+    /// How many built occurrences it holds: the drawn one, and those that its feed holds.
+    pub fn held(&self) -> usize
+        ensures { result ≡ min (length (listed self.now.head (F.holds self.now.feed))) (2 ^ 64 - 1) }
+    {
+        let drawn = usize::from(self.head.is_some());
+        self.feed.held().saturating_add(drawn)
+    }
+}
