@@ -102,12 +102,12 @@ impl ZoneTable {
         }
     }
 
-    /// The zones take note of the locals of an event.
+    /// The zones take note of the locals of an event. Its start is asked for wherever it is.
     fn note_event(&mut self, event: &CalendarEvent, end: Moment)
         ensures { known_by self.new ≡ known_by self.old }
     {
         let fields = &event.fields;
-        self.note_some(event.calendar, &fields.start, end);
+        self.note_some(event.calendar, &fields.start, Moment::MAX);
         self.note_some(event.calendar, &fields.end, end);
         self.note_some(event.calendar, &fields.recurrence, end);
         self.note_dates(event.calendar, &fields.rdates.values, end);
