@@ -147,7 +147,7 @@ ROWS = [
     ('8 observances that COUNT ends', lambda: in_zone(ruled(8, 'FREQ=DAILY;COUNT=12345;BYWEEKNO=1'), '20240701T120000'), DAY, 4, 32),
     ('80 observances that COUNT ends', lambda: in_zone(ruled(80, 'FREQ=DAILY;COUNT=12345;BYWEEKNO=1'), '20240701T120000'), DAY, 8, 32),
     ('1,200 observances, 4,800 locals', lambda: many(1_200, 4_800), ['2023-12-31', '4d'], 1, 32),
-    ('4,800 observances, 19,200 locals', lambda: many(4_800, 19_200), ['2023-12-31', '4d'], 12, 32),
+    ('4,800 observances, 19,200 locals', lambda: many(4_800, 19_200), ['2023-12-31', '4d'], 1, 32),
     ('600 daily observances, 2,400 locals', lambda: daily(600, 2_400), ['2024-01-01', '366d'], 4, 32),
     ('the same, a day of December', lambda: daily(600, 2_400), ['2024-12-30', '1d'], 2, 32),
     ('1,200 daily observances, 4,800 locals, a day of December', lambda: daily(1_200, 4_800), ['2024-12-30', '1d'], 4, 32),

@@ -16,6 +16,7 @@ pub mod ListingLemmas
 pub mod ZoneSteps
 pub mod JumpLemmas
 pub mod WalkLemmas
+pub mod SweepLemmas
 pub mod TableLemmas
 pub mod CandidateLemmas
 pub mod ReadLemmas

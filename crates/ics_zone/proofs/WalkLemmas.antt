@@ -25,10 +25,9 @@ answer_pushed {offset = offset} was a true is answers right =
     rw is (All-push (λ (a : Answer). IsMomentBy offset a.seconds a.moment) was a answers right)
 answer_pushed was a false is answers right = rw is answers
 
-pub walk_begins : {offset : ℤ → ℤ} {local low before : ℤ} → IsShort offset → low ≡ local -ℤ pos 86_400
+pub walk_begins : {offset : ℤ → ℤ} {local low before : ℤ} → IsShort offset → low ≤ℤ (local -ℤ pos 86_400)
     → IsWalk offset local (record { low = low; before = before; gap = None })
 walk_begins short is = record {
-  high = omega (arith, ints);
   unseen = λ t h e. let bound = short t in omega (arith, ints);
   before = λ h. absurd (omega (arith, ints));
   gap = λ t h. let bound = short t in omega (arith, ints);
@@ -115,7 +114,6 @@ module _ {offset : ℤ → ℤ} {local : ℤ} (short : IsShort offset) {walk : W
         → MatchOption walk.gap (MatchOption new (walk.low ≤ℤ moment) (λ t. (moment <ℤ walk.low) × (t ≡ local -ℤ walk.before))) (λ g. new ≡ walk.gap)
         → IsWalk offset local (record { low = next; before = value; gap = new })
     walk_on {new = new} out gap = record {
-      high = let high = walked.high in omega (arith, ints);
       unseen = not_here out;
       before = λ h. steady (next -ℤ pos 1) (omega (arith, ints)) (omega (arith, ints));
       gap = gap_on out walk.gap new refl gap;

@@ -9,6 +9,7 @@ pub mod OnsetSets
 pub mod ZoneOnsets
 pub mod Tables
 pub mod Walks
+pub mod Sweeps
 pub mod Answers
 pub mod Hours
 pub mod Marks

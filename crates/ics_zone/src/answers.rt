@@ -1,15 +1,17 @@
 //! Locals of a zone whose instants are known.
-ghost use Rattle.std.specs.Prelude.{ℤ, ◌<◌, ◌≤◌, length, List, IfSome};
+ghost use Rattle.std.specs.Prelude.{ℤ, ◌≡◌, ◌<◌, ◌≤◌, length, List, IfSome};
 ghost use Rattle.ics_zone.specs.Moments.{IsMomentOf};
 ghost use Rattle.ics_zone.specs.Observances.{ObservanceSaid};
 ghost use Rattle.ics_zone.specs.Inner.Answers.{AreAnswers, AreAnswersBy};
+ghost use Rattle.ics_zone.specs.Inner.Sweeps.{AreReady, AreUnseen, IsSwept};
 ghost use Rattle.ics_zone.specs.Inner.Walks.{IsShort};
 ghost use Rattle.ics_zone.specs.Inner.ZoneOnsets.{AreSteady};
 
-use crate::clock::is_moment;
 use crate::latest::Steady;
-use crate::walk::moment_in;
+use crate::sweep::{Reach, are_ready, settled, sweep};
+use crate::walk::Seen;
 use ics_fields::Moment;
+use std::alloc::Global;
 
 const DAY: i64 = 86_400;
 
@@ -52,18 +54,39 @@ pub(crate) fn group_end(locals: &[i64], first: usize, days: u32) -> usize
     end
 }
 
-/// Adds the instants of locals, given by their seconds, that spans tell in their order. Those that find no memory are left out.
+// Nothing is known yet of so many locals. None if an allocation fails.
+fn unseen(alloc: Global, count: usize) -> Option<Vec<Seen>>
+    ensures { IfSome result (λ seen. AreUnseen count seen.items) }
+{
+    Vec::from_elem(alloc, Seen::Unshown(None), count).ok()
+}
+
+// Adds the instants of locals, given by their seconds, by what spans tell of each.
+fn add_settled(locals: &[i64], reach: &Reach, seen: &[Seen], answers: &mut Vec<Answer>)
+    requires ready { (from : ℤ) × AreReady from locals.now }
+    requires length { length seen.now ≡ length locals.now }
+    ensures { (offset : ℤ → ℤ) → IsShort offset → IsSwept offset locals.now reach.now seen.now → AreAnswersBy offset answers.old.items
+        → AreAnswersBy offset answers.new.items }
+{
+    for k in 0..locals.len() {
+        let seconds = locals[k];
+        if let Some(moment) = settled(seconds, reach, seen[k]) {
+            answers.push(Answer { seconds, moment }).ok();
+        }
+    }
+}
+
+/// Adds the instants of locals, given by their seconds in order, that spans tell in their order. Those that find no memory are left out.
 pub(crate) fn add_answers(spans: &[Steady], locals: &[i64], answers: &mut Vec<Answer>)
     ensures { (offset : ℤ → ℤ) → IsShort offset → AreSteady offset spans.now → AreAnswersBy offset answers.old.items
         → AreAnswersBy offset answers.new.items }
 {
-    for local in locals {
-        let seconds = *local;
-        if !is_moment(seconds) {
-            continue;
-        }
-        if let Some(moment) = moment_in(spans, seconds) {
-            answers.push(Answer { seconds, moment }).ok();
-        }
+    if spans.is_empty() || !are_ready(locals, spans[0].from) {
+        return;
     }
+    let Some(mut seen) = unseen(*answers.allocator(), locals.len()) else {
+        return;
+    };
+    let reach = sweep(spans[0].from, spans, locals, &mut seen);
+    add_settled(locals, &reach, &seen, answers);
 }

@@ -20,6 +20,7 @@ mod place;
 mod shared_observed;
 mod shared_table;
 mod sixty;
+mod sweep;
 mod table;
 mod times;
 mod walk;

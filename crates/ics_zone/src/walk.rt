@@ -4,6 +4,7 @@ ghost use Rattle.ics_zone.specs.Seconds.{IsMoment};
 ghost use Rattle.ics_zone.specs.Moments.{IsInGap, IsMomentBy};
 ghost use Rattle.ics_zone.specs.Inner.ZoneOnsets.{AreSteady, IsSteady};
 ghost use Rattle.ics_zone.specs.Inner.Walks.{IsShort, IsWalk, IsTold, IsGapRead};
+ghost use Rattle.ics_zone.specs.Inner.Sweeps.{IsToldOn};
 
 use crate::latest::Steady;
 use ics_fields::Moment;
@@ -32,6 +33,15 @@ pub(crate) enum Told {
     Out,
 }
 
+/// What spans that begin a day before a local or earlier tell of it.
+#[derive(Clone, Copy)]
+pub(crate) enum Seen {
+    /// The first instant that shows it.
+    Shown(Moment),
+    /// Not shown. The local read with the offset before the gap, if the clock has shown a later one.
+    Unshown(Option<Moment>),
+}
+
 /// The walk for a local, given by its seconds, from a day before it on.
 pub(crate) fn walk_to(seconds: i64) -> Walk
     requires { IsMoment seconds }
@@ -56,6 +66,23 @@ fn gap_of(seconds: i64, walk: &Walk, moment: Moment) -> Option<Moment>
         None if moment < walk.low => Some(seconds - i64::from(walk.before)),
         gap => gap,
     }
+}
+
+/// What one more span tells of a local, of which something is known before it.
+pub(crate) fn seen_on(seconds: i64, span: &Steady, before: i32, seen: Seen) -> Seen
+    requires bound { IsMoment seconds }
+    requires some { span.now.from <ℤ span.now.next }
+    ensures { IsToldOn span.now before seconds seen result }
+{
+    let Seen::Unshown(gap) = seen else {
+        return seen;
+    };
+    let low = span.from;
+    let moment = seconds - i64::from(span.offset);
+    if low <= moment && moment < span.next {
+        return Seen::Shown(moment);
+    }
+    Seen::Unshown(gap_of(seconds, &Walk { low, before, gap }, moment))
 }
 
 /// One more span of a walk.

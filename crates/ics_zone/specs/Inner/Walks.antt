@@ -1,7 +1,9 @@
 -- A walk over spans with one offset each, in their order, for the instant that a local means.
-use Rattle.std.specs.Prelude.{◌≡◌, ◌≢◌, MatchOption, ℤ, pos, ◌-ℤ◌, ◌<ℤ◌, ◌≤ℤ◌}
+use Rattle.std.specs.Prelude.{◌≡◌, ◌≢◌, MatchOption, ℤ, pos, ◌-ℤ◌, ◌<ℤ◌}
 use Rattle.jiff_core.specs.Calendar.{IsWithin}
 use Rattle.ics_zone.specs.declared.walk.Walk.{Walk}
+use Rattle.ics_zone.specs.declared.walk.Seen.{Seen}
+use Rattle.ics_zone.specs.declared.walk.Seen.TheVariants.{Shown, Unshown}
 use Rattle.ics_zone.specs.declared.walk.Told.{Told}
 use Rattle.ics_zone.specs.declared.walk.Told.TheVariants.{Shows, On, Out}
 use Rattle.ics_zone.specs.Moments.{shown, IsFirstTime}
@@ -17,7 +19,6 @@ IsGapRead offset local t = (past : ℤ) × (IsJump offset local past × (t ≡ l
 
 -- no instant before `low` shows a local, `before` is the offset just before that, and the gap is known if an instant before it shows a later local
 pub record IsWalk (offset : ℤ → ℤ) (local : ℤ) (walk : Walk) : Type 0 where
-  pub high : (local -ℤ pos 86_400) ≤ℤ walk.low
   pub unseen : (t : ℤ) → t <ℤ walk.low → shown offset t ≢ local
   pub before : (local -ℤ pos 86_400) <ℤ walk.low → walk.before ≡ offset (walk.low -ℤ pos 1)
   pub gap : MatchOption walk.gap ((t : ℤ) → t <ℤ walk.low → shown offset t <ℤ local) (IsGapRead offset local)
@@ -27,3 +28,8 @@ abbrev pub IsTold : (ℤ → ℤ) → ℤ → Told → Type 0
 IsTold offset local (Shows t) = IsFirstTime offset local t
 IsTold offset local (On walk) = IsWalk offset local walk
 IsTold offset local Out = Unit {0}
+
+-- the first instant that shows a local, or as a walk up to an instant has it, with the offset just before that
+abbrev pub IsSeen : (ℤ → ℤ) → ℤ → ℤ → ℤ → Seen → Type 0
+IsSeen offset local low before (Shown t) = IsFirstTime offset local t
+IsSeen offset local low before (Unshown gap) = IsWalk offset local (record { low = low; before = before; gap = gap })
