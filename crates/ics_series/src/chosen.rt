@@ -24,7 +24,8 @@ pub(crate) fn chosen<'a>(
     ensures read { IfOk result (λ _. AreRead (map said_by files.entry.now)) }
 {
     let mut versions = versions(alloc, files, display)?;
-    versions.sort_unstable_by(compare);
+    // Files mostly have their events in some order of their UIDs: this sort keeps what is in order.
+    versions.sort_by(compare)?;
     last_of_each(alloc, &versions)
 }
 

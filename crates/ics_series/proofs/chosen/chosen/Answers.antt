@@ -15,8 +15,8 @@ returns c = record {
   chosen =
       IfOk-weaker c.last_of_each.result _ (λ last. AreChosen (map said_by c.args.files.now) (display_clock c.args.display.now) last.items)
       (λ last h. found c.in_ok-versions.ensures.labels
-      c.sort_unstable_by.ensures.permutation
-      (climbs-by (on seen label_cmp) (on_total seen label_total) c.sort_unstable_by.new.self.items c.sort_unstable_by.ensures.sorted
+      c.sort_by.ensures.permutation
+      (climbs-by (on seen label_cmp) (on_total seen label_total) c.sort_by.new.self.items c.in_ok-sort_by.ensures.sorted
       (λ f a r f' k. search rules))
       (subst (λ vs. map seen last.items ≡ lasts is_same (map seen vs)) c.deref.ensures.value h))
       c.last_of_each.ensures;
