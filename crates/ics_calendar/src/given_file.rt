@@ -1,12 +1,12 @@
 //! What a file gives where a listing goes on behind faults.
 
-ghost use Rattle.std.specs.Prelude.{◌≡◌, IfOk};
+ghost use Rattle.std.specs.Prelude.{◌≡◌};
 ghost use Rattle.ics_calendar.specs.Kept.{kept_given};
 
 use ics_components::Fault;
 use ics_event::KeptTexts;
 use ics_file::FileEvents;
-use std::alloc::{AllocError, Global};
+use std::alloc::Global;
 use std::marker::Model;
 
 /// The events that a file gives, and the faults that are named: by their lines, then by their kinds, each once.
@@ -27,13 +27,13 @@ impl Model for GivenFile {
 
 impl GivenFile {
     /// The same, with these texts of its events alone.
-    pub fn kept(self, alloc: Global, keep: KeptTexts) -> Result<GivenFile, AllocError>
-        ensures { IfOk result (λ given. given ≡ kept_given keep self) }
+    pub fn kept(self, alloc: Global, keep: KeptTexts) -> GivenFile
+        ensures { result ≡ kept_given keep self }
     {
         let GivenFile { file, faults } = self;
-        Ok(GivenFile {
-            file: file.kept(alloc, keep)?,
+        GivenFile {
+            file: file.kept(alloc, keep),
             faults,
-        })
+        }
     }
 }

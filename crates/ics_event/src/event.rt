@@ -74,51 +74,23 @@ impl Model for Event {
     }) };
 }
 
-/// The text if it is kept, or the empty one.
-fn kept_text(alloc: Global, keep: bool, text: Text) -> Text
-    ensures { result ≡ kept_text keep text }
+/// Empties a text that is not kept.
+fn keep_text(alloc: Global, keep: bool, text: &mut Text)
+    ensures { text.new ≡ kept_text keep text.old }
 {
-    if keep {
-        return text;
+    if !keep {
+        *text = Text::new(alloc);
     }
-    drop(text);
-    Text::new(alloc)
 }
 
 impl Event {
-    /// The same event with these texts alone. The others are empty.
-    pub fn kept(self, alloc: Global, keep: KeptTexts) -> Event
-        ensures { result ≡ kept_event keep self }
+    /// Empties the texts that are not kept. Nothing else is changed.
+    pub fn keep_texts(&mut self, alloc: Global, keep: KeptTexts)
+        ensures { self.new ≡ kept_event keep self.old }
     {
-        let Event {
-            uid,
-            sequence,
-            start,
-            length,
-            rule,
-            rdates,
-            exdates,
-            recurrence,
-            title,
-            location,
-            description,
-            cancelled,
-            url,
-        } = self;
-        Event {
-            uid,
-            sequence,
-            start,
-            length,
-            rule,
-            rdates,
-            exdates,
-            recurrence,
-            title: kept_text(alloc, keep.title, title),
-            location: kept_text(alloc, keep.location, location),
-            description: kept_text(alloc, keep.description, description),
-            cancelled,
-            url: kept_text(alloc, keep.url, url),
-        }
+        keep_text(alloc, keep.title, &mut self.title);
+        keep_text(alloc, keep.location, &mut self.location);
+        keep_text(alloc, keep.description, &mut self.description);
+        keep_text(alloc, keep.url, &mut self.url);
     }
 }

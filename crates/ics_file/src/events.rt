@@ -1,11 +1,11 @@
-ghost use Rattle.std.specs.Prelude.{◌≡◌, IfOk, map};
+ghost use Rattle.std.specs.Prelude.{◌≡◌, map};
 ghost use Rattle.ics_event.specs.Kept.{kept_event};
 ghost use Rattle.ics_file.specs.Kept.{kept_seen};
 
 use ics_event::Event;
 use ics_values::KeptTexts;
 use ics_zone::Zone;
-use std::alloc::{AllocError, Global};
+use std::alloc::Global;
 use std::marker::Model;
 
 /// The time zones and the events of a file, each in the order of their BEGIN lines.
@@ -30,24 +30,32 @@ impl Model for FileEvents {
     ghost invariant = { λ a. AreEventsOf (map zone_said a.zones.items) a.events.items };
 }
 
-/// The same events with these texts alone.
-fn events_kept(alloc: Global, keep: KeptTexts, events: Vec<Event>) -> Result<Vec<Event>, AllocError>
-    ensures { IfOk result (λ kept. kept.items ≡ map (kept_event keep) events.items) }
+/// Empties the texts of events that are not kept.
+fn keep_texts(alloc: Global, keep: KeptTexts, events: &mut [Event])
+    ensures { events.new ≡ map (kept_event keep) events.old }
 {
-    let mut kept = Vec::with_capacity(alloc, events.len())?;
-    for event in events {
-        kept.push(event.kept(alloc, keep))?;
+    for event in events.iter_mut() {
+        event.keep_texts(alloc, keep);
     }
-    Ok(kept)
+}
+
+/// The same events with these texts alone.
+fn events_kept(alloc: Global, keep: KeptTexts, mut events: Vec<Event>) -> Vec<Event>
+    ensures { result.items ≡ map (kept_event keep) events.items }
+{
+    keep_texts(alloc, keep, events.as_mut_slice());
+    events
 }
 
 impl FileEvents {
     /// The same file, whose events have these texts alone.
-    pub fn kept(self, alloc: Global, keep: KeptTexts) -> Result<FileEvents, AllocError>
-        ensures { IfOk result (λ file. file ≡ kept_seen keep self) }
+    pub fn kept(self, alloc: Global, keep: KeptTexts) -> FileEvents
+        ensures { result ≡ kept_seen keep self }
     {
         let FileEvents { zones, events } = self;
-        let events = events_kept(alloc, keep, events)?;
-        Ok(FileEvents { zones, events })
+        FileEvents {
+            zones,
+            events: events_kept(alloc, keep, events),
+        }
     }
 }

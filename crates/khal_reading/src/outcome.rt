@@ -135,7 +135,7 @@ impl<'a> HalfRead<'a> {
                 Err(FileFault::Memory) => Err(RunFault::Memory),
             },
             HalfRead::InParts(partial, keep) => {
-                let given = partial.settle(alloc, files)?.kept(alloc, keep)?;
+                let given = partial.settle(alloc, files)?.kept(alloc, keep);
                 Ok(Outcome::in_parts(alloc, given)?)
             }
             HalfRead::Faulty { line, kind } => {

@@ -29,6 +29,7 @@ pub struct Reading {
 }
 
 impl Reading {
+    /// Nothing is read.
     fn new(alloc: Global) -> Reading
         ensures files { result.files.items ≡ [] }
         ensures errors { result.errors.items ≡ [] }
