@@ -4,7 +4,7 @@ import resource
 import time
 
 from folders import calendar
-from zones import part, stamps, zone
+from zones import BERLIN, part, stamps, zone
 
 ODD = ','.join(str(number) for number in range(1, 60, 2))
 MONTHS = ','.join(str(month) for month in range(1, 13))
@@ -119,6 +119,7 @@ PAST = 'UNTIL=00010102T000000Z'
 YESTERDAY = 'RRULE:FREQ=SECONDLY;UNTIL=20240602T000000Z'
 ODD_SECONDS = 'FREQ=SECONDLY;INTERVAL=2;BYSECOND=%s;BYMONTH=%s' % (ODD, MONTHS)
 SELDOM = 'FREQ=DAILY;COUNT=4294967295;INTERVAL=1009;BYWEEKNO=1'
+EXCLUDED = 'EXDATE;VALUE=DATE:' + ','.join('2024%02d%02d' % (month, day) for month in (7, 8, 9) for day in range(1, 32 - month // 9))
 FAR = 'RDATE;TZID=odd:' + ','.join('%04d0701T120000' % year for year in range(2100, 8100, 150))
 
 # name, file, words, how many loops it may take, and how many MiB
@@ -128,9 +129,14 @@ ROWS = [
     ('seconds of it by 8 clocks of New York', lambda: rules(8, 'FREQ=SECONDLY;' + PAST, end=''), [*DAY, *NEW_YORK], 1, 32),
     ('seconds of it, each day of a year', lambda: rules(1, 'FREQ=SECONDLY;' + PAST), ['2024-01-01', '366d', '--every-day'], 1, 32),
     ('seconds of it beside a long PERIOD', lambda: rules(1, 'FREQ=SECONDLY;' + PAST, 'RDATE;VALUE=PERIOD:00010101T000000Z/20240801T000000Z'), DAY, 1, 32),
+    ('seconds without an end beside it, limit 1', lambda: rules(1, 'FREQ=SECONDLY', 'RDATE;VALUE=PERIOD:00010101T000000Z/20240801T000000Z'),
+     [*DAY, '--limit', '1'], 1, 32),
     ('seconds that have not started, limit 1', lambda: rules(1, 'FREQ=SECONDLY', LONG), [*DAY, '--notstarted', '--limit', '1'], 1, 32),
     ('two events before millions of days', lambda: calendar(once('00010102')), ['0001-01-05', '3570000d', '--every-day', '--limit', '1'], 1, 32),
     ('two events at their end', lambda: calendar(once('97980102')), ['0001-01-05', '3570000d', '--every-day', '--limit', '1'], 1, 32),
+    ('minutes of a hundred years, each day, limit 1', lambda: rules(1, 'FREQ=MINUTELY', LONG), [*DAY, '--every-day', '--limit', '1'], 1, 32),
+    ('the same in New York', lambda: rules(1, 'FREQ=MINUTELY', LONG), [*DAY, '--every-day', '--limit', '1', *NEW_YORK], 1, 32),
+    ('minutes that have not started, each day', lambda: rules(1, 'FREQ=MINUTELY', LONG), [*DAY, '--every-day', '--notstarted'], 1, 32),
     ('odd seconds of even steps', lambda: rules(1, ODD_SECONDS, LONG), DAY, 1, 32),
     ('the same with COUNT', lambda: rules(1, ODD_SECONDS + ';COUNT=9', LONG), DAY, 1, 32),
     ('8 in no week of their months', lambda: rules(8, 'FREQ=DAILY;' + LATE), ['0001-01-02', '9700-01-01'], 1, 32),
@@ -163,6 +169,9 @@ ROWS = [
     ('the same by the clock of New York', lambda: excluded(8, ''), ['2024-07-01', '10d', '--limit', '1', *NEW_YORK], 1, 32),
     ('an excluded day by the clock of New York', lambda: excluded(64, ''), [*DAY, *NEW_YORK], 4, 24),
     ('the same of rules since 2020', lambda: excluded(64, '', since='20200101'), [*DAY, *NEW_YORK], 4, 24),
+    ('the same by the zone file of Berlin', lambda: excluded(64, '', since='20200101'), [*DAY, '--zone-file', BERLIN], 8, 24),
+    ('92 excluded days by it, limit 1', lambda: rules(1, 'FREQ=SECONDLY', EXCLUDED, end=''),
+     ['2024-07-01', '92d', '--limit', '1', '--zone-file', BERLIN], 4, 24),
     ('64 rules behind what is listed, limit 1', lambda: excluded(64, '', *once('20240628')),
      ['2024-06-28', '10d', '--limit', '1', *NEW_YORK], 1, 32),
     ('400,000 faulty events, --keep-going', lambda: faulty(400_000), [*DAY, '--keep-going'], 12, 256),
