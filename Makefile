@@ -124,4 +124,6 @@ clean:
 	@rm -rf bin lib dist out bench/data crates/*/out
 
 kit:
-	@command -v $(RT) >/dev/null || { echo "make: '$(RT)' is not found: install the Rattle kit that the README names and put its bin folder on PATH, or run make RT=/path/to/rt" >&2; exit 1; }
+	@command -v $(RT) >/dev/null || { \
+	    echo "make: '$(RT)' is not found: install the Rattle kit that the README names" \
+	        "and put its bin folder on PATH, or run make RT=/path/to/rt" >&2; exit 1; }

@@ -50,6 +50,11 @@ def zone_words():
     return [zone] + ['--zones=' + folder for folder in [environment('ZONES')] if folder]
 
 
+def asks_for_help():
+    """Whether the first word is no folder, but an option such as --help."""
+    return sys.argv[1].startswith('-')
+
+
 def fail(message, status):
     print('%s: %s' % (os.path.basename(sys.argv[0]), message), file=sys.stderr)
     sys.exit(status)
@@ -77,7 +82,7 @@ def on_one_line(text, most=60):
 
 
 if __name__ == '__main__':
-    if not 2 <= len(sys.argv) <= 4:
+    if not 2 <= len(sys.argv) <= 4 or asks_for_help():
         fail('usage: entries.py FOLDER [START [END]]', 2)
     entries, status = listed(*sys.argv[1:])
     for entry in entries:

@@ -9,7 +9,7 @@ use Rattle.ics_file.specs.File.{FileSaid}
 use Rattle.ics_event.specs.Kept.{KeptTexts}
 use Rattle.ics_file.specs.Kept.{kept_said}
 use Rattle.ics_listing.specs.After.{after_key}
-use Rattle.ics_series.specs.Clocks.{display_clock}
+use Rattle.ics_starts.specs.Clocks.{display_clock}
 use Rattle.ics_listing.specs.Entry.{Entry, Rank, key_rank, rank_of}
 use Rattle.ics_listing.specs.Listing.{IsIn}
 use Rattle.ics_listing.specs.DayKeys.{DayRank, OnDay, after_day_key, day_key_rank, day_rank_of, is_day_after}

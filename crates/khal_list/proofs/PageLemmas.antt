@@ -9,7 +9,7 @@ use Rattle.std.proofs.lemmas.List.{take_all, take-append-drop, length-drop, leng
 use Rattle.std.specs.declared.cmp.Ordering.TheVariants.{Less, Greater}
 use Rattle.ics_file.specs.File.{FileSaid}
 use Rattle.ics_listing.specs.After.{after_key}
-use Rattle.ics_series.specs.Clocks.{display_clock}
+use Rattle.ics_starts.specs.Clocks.{display_clock}
 use Rattle.ics_listing.specs.Entry.{Entry, entry_cmp, key_rank, rank_cmp, rank_of}
 use Rattle.ics_listing.specs.Inner.EntryLaws.{entry_total}
 use Rattle.ics_series.specs.OnDays.{DayListingBehind}

@@ -9,7 +9,7 @@ use Rattle.ics_event.specs.Kept.{KeptTexts}
 use Rattle.ics_file.specs.Kept.{kept_said}
 use Rattle.ics_zone.specs.declared.display.Display.{Display}
 use Rattle.ics_listing.specs.After.{after_key}
-use Rattle.ics_series.specs.Clocks.{display_clock}
+use Rattle.ics_starts.specs.Clocks.{display_clock}
 use Rattle.ics_listing.specs.DayKeys.{day_key_rank, day_rank_of, after_day_key, on_day_cmp, OnDay}
 use Rattle.ics_series.specs.OnDays.{IsOnDay}
 use Rattle.ics_listing.specs.Tokens.{day_spelling, IsDayKey, IsKey, spelling}

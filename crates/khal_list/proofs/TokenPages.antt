@@ -5,7 +5,7 @@ use Rattle.std.proofs.lemmas.List.{map-append}
 use Rattle.std.proofs.lemmas.Cmp.{int_eq_equiv}
 use Rattle.clap.specs.Words.{Text}
 use Rattle.ics_zone.specs.ZoneSaid.{ZoneSaid}
-use Rattle.ics_series.specs.Clocks.{display_clock}
+use Rattle.ics_starts.specs.Clocks.{display_clock}
 use Rattle.ics_listing.specs.Listing.{IsIn}
 use Rattle.ics_listing.specs.DayKeys.{day_key_rank, day_rank_of, DayRank, OnDay, after_day_key}
 use Rattle.ics_series.specs.OnDays.{DayListingBehind}

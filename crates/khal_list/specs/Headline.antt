@@ -3,7 +3,7 @@ use Rattle.std.specs.Prelude.{◌≡◌, ◌↔◌, ◌⊎◌, ℕ, List, [], �
 use Rattle.std.specs.Io.KnownBytes.{Appends}
 use Rattle.std.specs.Option.{option_map}
 use Rattle.ics_file.specs.File.{FileSaid}
-use Rattle.ics_series.specs.Clocks.{display_clock}
+use Rattle.ics_starts.specs.Clocks.{display_clock}
 use Rattle.ics_listing.specs.Tokens.{day_spelling, IsDayKey, IsKey, spelling}
 use Rattle.ics_listing.specs.Entry.{Entry, entry_cmp, rank_of}
 use Rattle.ics_listing.specs.Listing.{IsIn, IsListing}

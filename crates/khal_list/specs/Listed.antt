@@ -2,7 +2,7 @@
 use Rattle.std.specs.Prelude.{◌∷◌, ℕ, Bool, false, List, [], Option, Some, None, is_some, length, nat_lt, take, if◌then◌else◌}
 use Rattle.std.specs.Option.{option_map}
 use Rattle.ics_listing.specs.After.{after_key}
-use Rattle.ics_series.specs.Clocks.{display_clock}
+use Rattle.ics_starts.specs.Clocks.{display_clock}
 use Rattle.ics_listing.specs.DayKeys.{day_key_rank, DayRank, after_day_key, day_rank_of, OnDay}
 use Rattle.ics_listing.specs.Entry.{Entry, Rank, key_rank, rank_of}
 use Rattle.khal_list.specs.declared.every_day.EveryDay.{EveryDay}

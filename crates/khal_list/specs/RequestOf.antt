@@ -7,7 +7,7 @@ use Rattle.std.specs.String.{string_bytes}
 use Rattle.clap.specs.Words.{Text}
 use Rattle.ics_zone.specs.DisplayTexts.{display_of}
 use Rattle.ics_zone.specs.ZoneSaid.{ZoneSaid, display_said}
-use Rattle.ics_series.specs.Clocks.{zone_clock}
+use Rattle.ics_starts.specs.Clocks.{zone_clock}
 use Rattle.ics_listing.specs.DayKeys.{day_key_rank, DayRank}
 use Rattle.ics_series.specs.OnDays.{date_at}
 use Rattle.ics_listing.specs.Tokens.{day_spelling, IsDayKey, IsDayToken, spelling, IsKey, IsToken}

@@ -9,7 +9,7 @@ use Rattle.ics_values.specs.declared.stamp.Stamp.{Stamp}
 use Rattle.ics_values.specs.declared.stamp.Stamp.TheVariants.{Date, Floating, Utc, Zoned}
 use Rattle.ics_fields.specs.Days.{year_of, month_of, month_day_of, weekday_of, day_index}
 use Rattle.ics_listing.specs.FileClocks.{Clock}
-use Rattle.ics_series.specs.Clocks.{local_at}
+use Rattle.ics_starts.specs.Clocks.{local_at}
 use Rattle.ics_listing.specs.Entry.{Entry, rank_of}
 use Rattle.ics_listing.specs.DayKeys.{on_day, OnDay, day_rank_of}
 use Rattle.ics_series.specs.OnDays.{date_at}

@@ -4,7 +4,7 @@ ghost use Rattle.std.specs.Fmt.{signed_decimal};
 ghost use Rattle.std.specs.String.{string_bytes};
 ghost use Rattle.ics_fields.specs.Days.{IsDayNumber};
 ghost use Rattle.ics_fields.specs.Locals.{local_seconds};
-ghost use Rattle.ics_series.specs.Clocks.{display_clock};
+ghost use Rattle.ics_starts.specs.Clocks.{display_clock};
 ghost use Rattle.ics_listing.specs.Entry.{entry_of};
 ghost use Rattle.khal_list.specs.Listed.{style_of};
 ghost use Rattle.khal_list.specs.Text.{cell_text, end_date, entry_field_text, is_date, time_unless_date, token_text};

@@ -57,7 +57,7 @@ impl After {
     }
 }
 
-// The key of a token, if there is one.
+/// The key of a token, if there is one.
 fn key_of(alloc: Global, token: Option<&str>) -> Result<Option<Key>, TokenFault>
     ensures ok { IfOk result (spec.IsKeyOf (option_map (λ text. text.now) token.entry)) }
     ensures bad { IsErrOf result TokenFault.BadToken → spec.IsNoKey (option_map (λ text. text.now) token.entry) }
@@ -68,7 +68,7 @@ fn key_of(alloc: Global, token: Option<&str>) -> Result<Option<Key>, TokenFault>
     }
 }
 
-// The key under a day of a token, if there is one.
+/// The key under a day of a token, if there is one.
 fn day_key_of(
     alloc: Global,
     token: Option<&str>,
@@ -84,7 +84,7 @@ fn day_key_of(
     }
 }
 
-// The key under a day of a token: that of an entry under a day has it, and that of an entry gets it.
+/// The key under a day of a token: that of an entry under a day has it, and that of an entry gets it.
 fn day_key_by(
     alloc: Global,
     token: &str,
@@ -104,7 +104,7 @@ fn day_key_by(
     Ok(DayKey { day, key })
 }
 
-// The day under which a listing goes on after an occurrence with this start.
+/// The day under which a listing goes on after an occurrence with this start.
 fn day_from(zone: &Display, window: &Window, start: Moment) -> i32
     ensures { result ≡ spec.day_from (display_said zone.now) window.now start }
 {

@@ -11,6 +11,7 @@ use jiff_core::civil::{Date, Weekday};
 use khal_words::{DayField, Format, Piece};
 use std::alloc::AllocError;
 
+/// The name of a weekday, as `Monday`.
 fn name_of(weekday: Weekday) -> &'static str
     ensures { result.now ≡ weekday_name (monday_zero weekday) }
 {

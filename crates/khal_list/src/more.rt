@@ -9,7 +9,7 @@ ghost use Rattle.khal_list.specs.Headline.{more_line};
 use khal_ports::{RunFault, Sink, put_all};
 use std::alloc::{AllocError, Global};
 
-// The line of a token: `more: TOKEN` and LF.
+/// The line of a token: `more: TOKEN` and LF.
 fn more_line(alloc: Global, token: &str) -> Result<String, AllocError>
     ensures { IfOk result (λ line. string_bytes line ≡ more_line (Some token.now)) }
 {

@@ -63,7 +63,7 @@ pub fn print_days<'a, O: Sink>(
     put_entries(alloc, &EachDay, days, request, out)
 }
 
-// Writes the text of the first entries that a source has to come, in the way in which they are drawn.
+/// Writes the text of the first entries that a source has to come, in the way in which they are drawn.
 fn put_entries<'a, X, D: Draws<'a, X>, O: Sink>(
     alloc: Global,
     draws: &D,
@@ -95,7 +95,7 @@ fn put_entries<'a, X, D: Draws<'a, X>, O: Sink>(
     Err(RunFault::Memory)
 }
 
-// Writes the text of an entry under its day, which it makes in the place of the text before.
+/// Writes the text of an entry under its day, which it makes in the place of the text before.
 fn put_entry<O: Sink>(
     alloc: Global,
     text: &mut Vec<u8>,
@@ -118,7 +118,7 @@ fn put_entry<O: Sink>(
     Ok(())
 }
 
-// What is left of a limit after one entry.
+/// What is left of a limit after one entry.
 fn one_fewer(left: Option<u32>) -> Option<u32>
     requires { left ≢ Some 0 }
     ensures { left ≡ option_map (λ count. count + 1) result }
@@ -129,7 +129,7 @@ fn one_fewer(left: Option<u32>) -> Option<u32>
     }
 }
 
-// The key of an entry under its day, if there is one.
+/// The key of an entry under its day, if there is one.
 fn key_of(alloc: Global, entry: Option<(i32, Occurrence<'_>)>) -> Result<Option<DayKey>, RunFault>
     ensures ok { IfOk result (λ key. option_map day_key_rank key
         ≡ option_map (λ given. day_rank_of (on_day_of given)) entry.entry) }

@@ -45,7 +45,7 @@ impl RequestFault {
         }
     }
 
-    // What clap says of words that it refuses.
+    /// What clap says of words that it refuses.
     pub(crate) fn of_clap(alloc: Global, error: Error) -> RequestFault
         ensures { IsFaultOf (kind_of error) result }
     {

@@ -15,14 +15,16 @@ use ics_values::{Local, Moment};
 use ics_zone::{Display, Place};
 use khal_words::{Span, WindowText};
 
-// 0001-01-02T00:00, before which no window starts, and 9800-01-01T00:00, after which none ends.
+/// 0001-01-02T00:00, before which no window starts.
 const FIRST_START: i64 = -62_135_510_400;
 
+/// 9800-01-01T00:00, after which none ends.
 const LAST_END: i64 = 247_090_953_600;
 
-// The days of the years for which a zone has answers, 0000 to 9950.
+/// The first day of the years for which a zone has answers, 0000 to 9950.
 const FIRST_DAY: i32 = -EPOCH_DAY;
 
+/// The last of them.
 const LAST_DAY: i32 = 2_914_999;
 
 /// The window that the texts ask for, by a display zone and a clock.
@@ -50,7 +52,7 @@ pub(crate) fn window_of(
     }
 }
 
-// START's local, or today's midnight if it is left out.
+/// START's local, or today's midnight if it is left out.
 fn start_said(zone: &Display, now: Moment, text: Option<&str>) -> Option<Local>
     ensures value { option_map (λ l. local_seconds l) result
         ≡ spec.start_said (display_said zone.now) now (option_map (λ t. t.now) text.entry) }
@@ -66,7 +68,7 @@ fn start_said(zone: &Display, now: Moment, text: Option<&str>) -> Option<Local>
     }
 }
 
-// Today's midnight, by a clock within the bounds of windows.
+/// Today's midnight, by a clock within the bounds of windows.
 fn today(zone: &Display, now: Moment) -> Option<Local>
     ensures value { option_map (λ l. local_seconds l) result
         ≡ spec.today (display_said zone.now) now }
@@ -79,6 +81,7 @@ fn today(zone: &Display, now: Moment) -> Option<Local>
     Some(Local { day, second: 0 })
 }
 
+/// END's local, by the start of the window.
 fn end_local(start: Local, name: WindowText) -> Local
     requires start { IsEpochDay start.day }
     requires name { IsInCalendar name }
@@ -98,7 +101,7 @@ fn end_local(start: Local, name: WindowText) -> Local
     }
 }
 
-// The window between two locals.
+/// The window between two locals.
 fn between(zone: &Display, start: Local, end: Local, notstarted: bool) -> Option<Window>
     ensures ends { ends_by result ≡ spec.between (display_said zone.now)
         (local_seconds start) (local_seconds end) }
@@ -124,7 +127,7 @@ fn between(zone: &Display, start: Local, end: Local, notstarted: bool) -> Option
     }
 }
 
-// The window of one second.
+/// The window of one second.
 fn second_at(zone: &Display, local: Local, notstarted: bool) -> Option<Window>
     ensures ends { ends_by result ≡ spec.second_at (display_said zone.now) (local_seconds local) }
     ensures flag { IfSome result (λ w. w.notstarted ≡ notstarted) }
@@ -140,6 +143,7 @@ fn second_at(zone: &Display, local: Local, notstarted: bool) -> Option<Window>
     })
 }
 
+/// The instant of a local in the display zone.
 fn instant(zone: &Display, local: Local) -> Moment
     requires { IsDay local.day }
     ensures value { result ≡ said_moment (display_said zone.now) (local_seconds local) }

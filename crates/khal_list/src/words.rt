@@ -129,7 +129,7 @@ pub fn zone_of_file(alloc: Global, bytes: &[u8]) -> Result<Display, RequestFault
     }
 }
 
-// The request of clap's entries, which clap has tested, in a display zone.
+/// The request of clap's entries, which clap has tested, in a display zone.
 fn request_of(
     alloc: Global,
     found: &ArgMatches<'_>,
@@ -160,7 +160,7 @@ fn request_of(
     })
 }
 
-// The text of `--zones`, if it is given.
+/// The text of `--zones`, if it is given.
 fn zones_of<'a>(alloc: Global, found: &ArgMatches<'a>) -> Result<Option<String>, AllocError>
     ensures { IfOk result (λ zones. option_map string_bytes zones
         ≡ zones_text (subcommand_rows_of found.now)) }

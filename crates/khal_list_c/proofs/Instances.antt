@@ -10,8 +10,8 @@ use Rattle.ics_fields.specs.declared.local.Local.{Local}
 use Rattle.ics_fields.proofs.DayLemmas.{day_index_parts}
 use Rattle.ics_rule.specs.Kept.{is_kept, until_moment}
 use Rattle.ics_rule.specs.Next.{IsNextKept, NoneKept}
-use Rattle.ics_rule.specs.PeriodNumbers.{rules_end}
-use Rattle.ics_rule.specs.Recurrence.{Recurrence}
+use Rattle.ics_period.specs.PeriodNumbers.{rules_end}
+use Rattle.ics_period.specs.Recurrence.{Recurrence}
 use Rattle.ics_zone.specs.ZoneSaid.{ZoneSaid, Always, said_moment, said_offset, zone_said}
 use Rattle.ics_zone.specs.declared.zone.ZoneKind.{ZoneKind}
 use Rattle.ics_zone.specs.Inner.ZoneBounds.{said_moment_near, said_offset_near}

@@ -1,7 +1,7 @@
 -- Locals as instants of a zone, and instants as locals.
 use Rattle.std.specs.Prelude.{◌≡◌, ℕ, ℤ, pos, ◌+ℤ◌, ◌≤ℤ◌, ◌<◌, ◌≤◌, ◌==◌, min, List, length, map, take, slice_get, Some, unsigned_abs, if◌then◌else◌}
 use Rattle.ics_fields.specs.Locals.{year_seconds}
-use Rattle.ics_rule.specs.PeriodNumbers.{rules_end}
+use Rattle.ics_period.specs.PeriodNumbers.{rules_end}
 use Rattle.ics_zone.specs.ZoneSaid.{ZoneSaid, said_offset}
 use Rattle.khal_list_c.specs.Clocks.{epoch, zone_by}
 

@@ -3,8 +3,8 @@ use Rattle.std.specs.Prelude.{ℕ, List, Bool, true, false, Result, Ok, Err}
 use Rattle.ics_fields.specs.Locals.{local_at}
 use Rattle.ics_fields.specs.RuleParts.{RuleParts}
 use Rattle.ics_fields.specs.declared.local.Local.{Local}
-use Rattle.ics_rule.specs.declared.kind.Kind.{Kind}
-use Rattle.ics_rule.specs.declared.kind.Kind.TheVariants as kind
+use Rattle.ics_period.specs.declared.kind.Kind.{Kind}
+use Rattle.ics_period.specs.declared.kind.Kind.TheVariants as kind
 use Rattle.ics_values.specs.Rules.{rule_of}
 use Rattle.ics_values.specs.Stamps.{stamp_of}
 use Rattle.ics_values.specs.declared.rule_text.RuleFault.{RuleFault}

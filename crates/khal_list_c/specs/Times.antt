@@ -2,9 +2,9 @@
 use Rattle.std.specs.Prelude.{◌≡◌, ℕ, ℤ, zero, suc, ◌+◌, ◌<◌, ◌≤◌, ◌==◌, ◌&&◌, ◌||◌, int_le, min, Bool, true, false, Option, Some, None, Result, Ok, Err}
 use Rattle.std.specs.Prelude.{List, length, slice_index}
 use Rattle.ics_fields.specs.Locals.{number}
-use Rattle.ics_rule.specs.PeriodNumbers.{rules_end}
+use Rattle.ics_period.specs.PeriodNumbers.{rules_end}
 use Rattle.ics_rule.specs.Kept.{is_kept, until_moment}
-use Rattle.ics_rule.specs.Recurrence.{Recurrence}
+use Rattle.ics_period.specs.Recurrence.{Recurrence}
 use Rattle.ics_zone.specs.ZoneSaid.{ZoneSaid}
 use Rattle.khal_list_c.specs.Clocks.{instant_in, IsClockBy, IsZoneFault}
 use Rattle.khal_list_c.specs.Said.{said_of}

@@ -4,7 +4,7 @@ ghost use Rattle.ics_fields.specs.Days.{IsDayNumber};
 ghost use Rattle.ics_fields.specs.Locals.{number};
 ghost use Rattle.ics_rule.specs.Cursors.{IsCursorOf, place_of};
 ghost use Rattle.ics_rule.specs.Kept.{until_moment};
-ghost use Rattle.ics_rule.specs.PeriodNumbers.{rules_end};
+ghost use Rattle.ics_period.specs.PeriodNumbers.{rules_end};
 ghost use Rattle.khal_list_c.specs.Clocks.{clock_said};
 ghost use Rattle.khal_list_c.specs.Times.{Fills, IsNextOf, NoneOf, is_by_instant, is_instance};
 

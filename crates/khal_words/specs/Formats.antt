@@ -31,6 +31,16 @@ abbrev pub day_name : DayField → List ℕ
 day_name day.Name = codes "name"
 day_name day.Date = codes "date"
 
+-- all of them
+abbrev pub entry_fields : List EntryField
+entry_fields =
+    entry.Cell ∷ entry.Title ∷ entry.StartTime ∷ entry.EndTime ∷ entry.StartDate ∷ entry.EndDate ∷ entry.Location ∷ entry.Description ∷ entry.Uid ∷
+    entry.Cancelled
+    ∷ entry.StartUnix ∷ entry.EndUnix ∷ entry.Token ∷ entry.Url ∷ []
+
+abbrev pub day_fields : List DayField
+day_fields = day.Name ∷ day.Date ∷ []
+
 -- a byte is a brace, and a text has none
 abbrev pub is_brace : ℕ → Bool
 is_brace b = b == 123 || b == 125

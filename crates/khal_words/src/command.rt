@@ -6,6 +6,7 @@ ghost use Rattle.clap.specs.declared.builder.command.Command.TheViews.{out-Comma
 ghost use Rattle.clap.specs.declared.error.kind.ErrorKind.TheVariants.{ArgumentConflict};
 ghost use Rattle.khal_words.specs.Commands as spec;
 
+use crate::field::LIST_EXAMPLES;
 use clap::error::ErrorKind;
 use clap::{Arg, ArgAction, Command, Error};
 use std::alloc::{AllocError, Global};
@@ -22,18 +23,6 @@ Examples:
       what is on at a moment, in UTC
 
 `khal-list list --help` lists the options, and `man khal-list` says more.";
-
-/// The text below the help of `list`.
-const LIST_EXAMPLES: &str = "Without a time zone all times, and `today`, are in UTC.
-
-Placeholders of --format:
-  {cell} {title} {start-time} {end-time} {start-date} {end-date} {location}
-  {description} {uid} {cancelled} {start-unix} {end-unix} {token} {url}
-
-Examples:
-  khal-list list ~/calendars --zone-file /etc/localtime
-  khal-list list ~/calendars 2024-01-01 2024-01-31 --limit 10
-  khal-list list ~/calendars --format '{start-time} {title}' --day-format ''";
 
 /// The text below the help of `at`.
 const AT_EXAMPLES: &str = "Without a time zone all times are in UTC.
@@ -117,6 +106,7 @@ fn add<'a>(
     }
 }
 
+/// The command without its subcommands.
 fn bare_command<'a>(alloc: Global) -> Result<Command<'a>, AllocError>
     ensures shape { IfOk result (λ c. app_of c ≡ spec.bare_app) }
     ensures local { IfOk result (λ c. (out-Command c).has_globals ≡ false) }
@@ -129,6 +119,7 @@ fn bare_command<'a>(alloc: Global) -> Result<Command<'a>, AllocError>
         .bin_name("khal-list")
 }
 
+/// The subcommand `list`.
 fn list_command<'a>(alloc: Global) -> Result<Command<'a>, AllocError>
     ensures shape { IfOk result (λ c. app_of c ≡ spec.list_app) }
     ensures local { IfOk result (λ c. (out-Command c).has_globals ≡ false) }
@@ -143,6 +134,7 @@ fn list_command<'a>(alloc: Global) -> Result<Command<'a>, AllocError>
     )
 }
 
+/// The subcommand `at`.
 fn at_command<'a>(alloc: Global) -> Result<Command<'a>, AllocError>
     ensures shape { IfOk result (λ c. app_of c ≡ spec.at_app) }
     ensures local { IfOk result (λ c. (out-Command c).has_globals ≡ false) }
@@ -187,6 +179,7 @@ fn subcommand<'a>(
         .args(args)
 }
 
+/// The arguments of `list`, in the order of its help.
 fn list_args<'a>(alloc: Global) -> Result<Vec<Arg<'a>>, AllocError>
     ensures rules { IfOk result (λ args. map rule_of args.items ≡ spec.list_rules) }
     ensures local { IfOk result (λ args. AllByRecursion (λ arg. arg.global ≡ false) args.items) }
@@ -208,6 +201,7 @@ fn list_args<'a>(alloc: Global) -> Result<Vec<Arg<'a>>, AllocError>
     ]?)
 }
 
+/// The arguments of `at`, in the order of its help.
 fn at_args<'a>(alloc: Global) -> Result<Vec<Arg<'a>>, AllocError>
     ensures rules { IfOk result (λ args. map rule_of args.items ≡ spec.at_rules) }
     ensures local { IfOk result (λ args. AllByRecursion (λ arg. arg.global ≡ false) args.items) }
@@ -258,6 +252,7 @@ fn flag<'a>(alloc: Global, name: &'a str, heading: &'a str, help: &'a str) -> Ar
         .action(ArgAction::SetTrue)
 }
 
+/// The folder that is read.
 fn folder<'a>(alloc: Global) -> Arg<'a>
     ensures rule { rule_of result ≡ spec.folder }
     ensures local { result.global ≡ false }
@@ -265,6 +260,7 @@ fn folder<'a>(alloc: Global) -> Arg<'a>
     argument(alloc, "folder", "FOLDER", FOLDER).required(true)
 }
 
+/// `--limit`: a number from 1 on.
 fn limit<'a>(alloc: Global) -> Arg<'a>
     ensures rule { rule_of result ≡ spec.limit }
     ensures local { result.global ≡ false }

@@ -2,6 +2,18 @@
 ghost use Rattle.std.specs.Prelude.{◌≡◌, ◌≢◌, ◌↔◌, IfSome, IsNone, IsTrue, List, ℕ, true};
 ghost use Rattle.khal_words.specs.Formats.{entry_name, day_name, entry_names_plain, day_names_plain};
 
+/// The text below the help of `list`: all placeholders of entries, and examples.
+pub(crate) const LIST_EXAMPLES: &str = "Without a time zone all times, and `today`, are in UTC.
+
+Placeholders of --format:
+  {cell} {title} {start-time} {end-time} {start-date} {end-date} {location}
+  {description} {uid} {cancelled} {start-unix} {end-unix} {token} {url}
+
+Examples:
+  khal-list list ~/calendars --zone-file /etc/localtime
+  khal-list list ~/calendars 2024-01-01 2024-01-31 --limit 10
+  khal-list list ~/calendars --format '{start-time} {title}' --day-format ''";
+
 /// What a placeholder names of an entry.
 #[derive(Clone, Copy)]
 pub enum EntryField {

@@ -69,7 +69,7 @@ impl<F: Placeholder> Format<F> {
     }
 }
 
-// The first piece of the text of a format, and what comes after it.
+/// The first piece of the text of a format, and what comes after it.
 fn next_piece<F: Placeholder>(text: &[u8]) -> Option<(Piece<F>, &[u8])>
     ensures some { IfSome result (λ found. text.entry.now ≡ written_piece F.name found.0 ++ found.1.now) }
     ensures none { IsNone result → (piece : Piece F) (after : List ℕ) → text.entry.now ≢ written_piece F.name piece ++ after }
@@ -82,7 +82,7 @@ fn next_piece<F: Placeholder>(text: &[u8]) -> Option<(Piece<F>, &[u8])>
     }
 }
 
-// The piece whose opening brace comes before this text, and the text after the piece.
+/// The piece whose opening brace comes before this text, and the text after the piece.
 fn opened_piece<F: Placeholder>(text: &[u8]) -> Option<(Piece<F>, &[u8])>
     ensures some { IfSome result (λ found. 123 ∷ text.entry.now ≡ written_piece F.name found.0 ++ found.1.now) }
     ensures none { IsNone result → (piece : Piece F) (after : List ℕ) → 123 ∷ text.entry.now ≢ written_piece F.name piece ++ after }
@@ -93,7 +93,7 @@ fn opened_piece<F: Placeholder>(text: &[u8]) -> Option<(Piece<F>, &[u8])>
     }
 }
 
-// The placeholder with the name before the first `}`, and the text after that.
+/// The placeholder with the name before the first `}`, and the text after that.
 fn named_piece<F: Placeholder>(text: &[u8]) -> Option<(Piece<F>, &[u8])>
     ensures some { IfSome result (λ found. 123 ∷ text.entry.now ≡ written_piece F.name found.0 ++ found.1.now) }
     ensures none { IsNone result → (field : F) (after : List ℕ) → text.entry.now ≢ F.name field ++ 125 ∷ after }
@@ -103,7 +103,7 @@ fn named_piece<F: Placeholder>(text: &[u8]) -> Option<(Piece<F>, &[u8])>
     Some((Piece::Field(field), &text[end + 1..]))
 }
 
-// The position of the first `}`.
+/// The position of the first `}`.
 fn closing(text: &[u8]) -> Option<usize>
     ensures { result ≡ position (λ byte. byte == 125) text.now }
 {

@@ -41,6 +41,7 @@ impl WindowText {
     }
 }
 
+/// The day that `YYYY-MM-DD` names, counted from 1970-01-01.
 fn day(text: &[u8]) -> Option<i32>
     ensures value { result ≡ spec.day_said text.now }
     ensures bound { IfSome result IsEpochDay }
@@ -54,6 +55,7 @@ fn day(text: &[u8]) -> Option<i32>
     day_number(year, month, day)
 }
 
+/// The day of a year, month and day of the month, counted from 1970-01-01, if there is such a date.
 fn day_number(year: u16, month: u8, day: u8) -> Option<i32>
     requires year { year ≤ 9999 }
     requires month { month < 100 }
@@ -67,6 +69,7 @@ fn day_number(year: u16, month: u8, day: u8) -> Option<i32>
     }
 }
 
+/// The local that `YYYY-MM-DDTHH:MM` names.
 fn local(text: &[u8]) -> Option<Local>
     ensures value { option_map (λ l. local_seconds l) result ≡ spec.local_said text.now }
     ensures bound { IfSome result (λ l. IsEpochDay l.day) }
@@ -76,7 +79,7 @@ fn local(text: &[u8]) -> Option<Local>
     at_clock(day, clock)
 }
 
-// The local of a day at `THH:MM`.
+/// The local of a day at `THH:MM`.
 fn at_clock(day: i32, clock: &[u8]) -> Option<Local>
     ensures value { option_map (λ l. local_seconds l) result
         ≡ option_map (λ second. seconds_at day second) (spec.time_said clock.now) }
@@ -89,7 +92,7 @@ fn at_clock(day: i32, clock: &[u8]) -> Option<Local>
     Some(Local { day, second })
 }
 
-// The number that four digits write.
+/// The number that four digits write.
 fn quad(a: u8, b: u8, c: u8, d: u8) -> Option<u16>
     ensures value { result ≡ spec.quad a b c d }
     ensures bound { IfSome result (λ number. number ≤ 9999) }
@@ -99,6 +102,7 @@ fn quad(a: u8, b: u8, c: u8, d: u8) -> Option<u16>
     Some(front * 100 + back)
 }
 
+/// The number of days that `Nd` names, from 1 on.
 fn days(text: &str) -> Option<u32>
     ensures value { result ≡ spec.days_said text.now }
     ensures bound { IfSome result (λ number. number ≤ spec.most_days) }
@@ -109,6 +113,7 @@ fn days(text: &str) -> Option<u32>
     }
 }
 
+/// The number that digits write, if it is one of a window's days.
 fn number(digits: &str) -> Option<u32>
     ensures value { result ≡ spec.number_said digits.now }
     ensures bound { IfSome result (λ number. number ≤ spec.most_days) }
@@ -122,6 +127,7 @@ fn number(digits: &str) -> Option<u32>
     }
 }
 
+/// Whether all bytes are digits of ASCII.
 fn are_digits(text: &[u8]) -> bool
     ensures { result ≡ list_all is_ascii_digit text.now }
 {

@@ -25,7 +25,7 @@ pub fn matches<'a>(alloc: Global, words: &'a [&'a str]) -> Result<ArgMatches<'a>
     }
 }
 
-// What clap makes of words, unless two options are given that may not stand together.
+/// What clap makes of words, unless two options are given that may not stand together.
 fn free_of_conflict<'a>(alloc: Global, found: ArgMatches<'a>) -> Result<ArgMatches<'a>, Error>
     ensures same { IfOk result (λ m. m ≡ found.entry) }
     ensures faults { FailsBy (spec.conflict_of (subcommand_rows_of found.entry)) result }
@@ -36,7 +36,7 @@ fn free_of_conflict<'a>(alloc: Global, found: ArgMatches<'a>) -> Result<ArgMatch
     Ok(found)
 }
 
-// The same without a look at which options stand together.
+/// The same without a look at which options stand together.
 fn parsed<'a>(alloc: Global, words: &'a [&'a str]) -> Result<ArgMatches<'a>, Error>
     ensures entries { IfOk result (λ m. subcommand_rows_of m
         ≡ spec.entries_of (map (λ word. word.now) words.entry.now)) }
@@ -46,7 +46,7 @@ fn parsed<'a>(alloc: Global, words: &'a [&'a str]) -> Result<ArgMatches<'a>, Err
     command(alloc)?.try_get_matches_from(words)
 }
 
-// Whether both options are given that name the display zone.
+/// Whether both options are given that name the display zone.
 fn has_two_zones(found: &ArgMatches<'_>) -> bool
     ensures { result ≡ spec.has_two_zones (subcommand_rows_of found.now) }
 {
