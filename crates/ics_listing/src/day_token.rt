@@ -52,7 +52,7 @@ impl DayToken {
     }
 }
 
-// The day of a token's text, and the text after it.
+/// The day of a token's text, and the text after it.
 fn split(text: &str) -> Option<(i32, &str)>
     ensures { (day : ℤ) (rest : List ℕ) → FitsSigned w32 day → text.now ≡ codes "K2." ++ (signed_decimal day ++ (46 ∷ rest))
         → IsSomeAnd result (λ parts. (parts.0 ≡ day) × (parts.1.now ≡ rest)) }

@@ -32,7 +32,7 @@ impl Key {
         })
     }
 
-    // Whether an occurrence comes after this key.
+    /// Whether an occurrence comes after this key.
     pub(crate) fn is_before(&self, occurrence: &Occurrence<'_>) -> bool
         ensures { result ≡ is_lt (rank_cmp (key_rank self.now) (rank_of (entry_of occurrence.now))) }
     {

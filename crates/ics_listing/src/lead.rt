@@ -22,8 +22,8 @@ pub(crate) struct Lead<'a, F: Coming> {
 }
 
 impl<'a, F: Coming> Lead<'a, F> {
-    // The start of the first occurrence or, as long as that is not known, an instant that is no later; None
-    // if nothing is left.
+    /// The start of the first occurrence or, as long as that is not known, an instant that is no later; None
+    /// if nothing is left.
     pub(crate) fn from(&self) -> Option<Moment>
         ensures { result ≡ option_map (λ turn. turn.start) (turn_of self.now.unread self.now.head) }
     {
@@ -36,7 +36,7 @@ impl<'a, F: Coming> Lead<'a, F> {
 }
 
 impl<'a, F: Feed<'a> + Begins + Drop> Lead<'a, F> {
-    // The lead of a feed, which is read at once if it begins by an instant.
+    /// The lead of a feed, which is read at once if it begins by an instant.
     pub(crate) fn new(mut feed: F, soon: Moment) -> Result<Lead<'a, F>, AllocError>
         ensures list { IfOk result (λ lead. listed lead.head (F.coming lead.feed) ≡ F.coming feed) }
         ensures sources { IfOk result (λ lead. F.sources lead.feed ≡ F.sources feed) }
@@ -60,7 +60,7 @@ impl<'a, F: Feed<'a> + Begins + Drop> Lead<'a, F> {
 }
 
 impl<'a, F: Feed<'a>> Lead<'a, F> {
-    // Drops what was drawn and draws the next.
+    /// Drops what was drawn and draws the next.
     pub(crate) fn draw(&mut self) -> Result<(), AllocError>
         ensures drawn { OnOk result (listed self.new.head (F.coming self.new.feed) ≡ F.coming self.old.feed) }
         ensures read { OnOk result (self.new.unread ≡ None) }

@@ -114,7 +114,7 @@ impl<'a, F: Feed<'a>> Feed<'a> for Merge<'a, F> {
 }
 
 impl<'a, F: Feed<'a>> Merge<'a, F> {
-    // Draws from the first lead as long as that was not read yet, or holds what has been given.
+    /// Draws from the first lead as long as that was not read yet, or holds what has been given.
     fn skip_given(&mut self) -> Result<(), AllocError>
         ensures same { ⟦<Merge<'a, F> as Coming>⟧.coming self.new ≡ ⟦<Merge<'a, F> as Coming>⟧.coming self.old }
         ensures sources { ⟦<Merge<'a, F> as Coming>⟧.sources self.new ≡ ⟦<Merge<'a, F> as Coming>⟧.sources self.old }
@@ -127,7 +127,7 @@ impl<'a, F: Feed<'a>> Merge<'a, F> {
         Ok(())
     }
 
-    // Draws from the first lead, which was not read yet or holds what has been given.
+    /// Draws from the first lead, which was not read yet or holds what has been given.
     fn draw_first(&mut self) -> Result<(), AllocError>
         requires { must_draw self.old.last (first_turn (map (λ l. turn_of l.unread l.head) self.old.leads.items) self.old.winners.items) ≡ true }
         ensures same { ⟦<Merge<'a, F> as Coming>⟧.coming self.new ≡ ⟦<Merge<'a, F> as Coming>⟧.coming self.old }
@@ -141,7 +141,7 @@ impl<'a, F: Feed<'a>> Merge<'a, F> {
         Ok(())
     }
 
-    // Whether the first lead was not read yet, or what it holds has been given.
+    /// Whether the first lead was not read yet, or what it holds has been given.
     fn must_draw(&self) -> bool
         ensures { result ≡ must_draw self.now.last (first_turn (map (λ l. turn_of l.unread l.head) self.now.leads.items) self.now.winners.items) }
     {
@@ -156,7 +156,7 @@ impl<'a, F: Feed<'a>> Merge<'a, F> {
         }
     }
 
-    // Whether the first lead was not read yet.
+    /// Whether the first lead was not read yet.
     fn is_unread(&self) -> bool
         ensures { result ≡ is_unread (first_turn (map (λ l. turn_of l.unread l.head) self.now.leads.items) self.now.winners.items) }
     {
@@ -166,7 +166,7 @@ impl<'a, F: Feed<'a>> Merge<'a, F> {
         }
     }
 
-    // What the first lead holds.
+    /// What the first lead holds.
     fn first(&self) -> Option<Occurrence<'a>>
         ensures { option_map entry_of result ≡ held_by (first_turn (map (λ l. turn_of l.unread l.head) self.now.leads.items) self.now.winners.items) }
     {

@@ -25,7 +25,7 @@ impl<'a> Occurrence<'a> {
     ghost use Rattle.ics_listing.specs.Entry.{entry_cmp, entry_of};
     ghost use Rattle.ics_listing.specs.Uids.{IsUidOrder};
 
-    // By start, then by the bytes of the UID, then by recurrence. The order of the UIDs may be known.
+    /// By start, then by the bytes of the UID, then by recurrence. The order of the UIDs may be known.
     pub(crate) fn compare(
         a: &Occurrence<'_>,
         b: &Occurrence<'_>,

@@ -76,7 +76,7 @@ impl Queue {
         }
     }
 
-    // Whether the first part ends before an instant.
+    /// Whether the first part ends before an instant.
     fn ends_before(&self, moment: Moment) -> bool
         ensures { result ≡ ends_before moment self.now.front.items }
     {
@@ -86,7 +86,7 @@ impl Queue {
         }
     }
 
-    // Whether the second part begins at an instant or later.
+    /// Whether the second part begins at an instant or later.
     fn begins_from(&self, moment: Moment) -> bool
         ensures { result ≡ begins_from moment self.now.back.items }
     {
@@ -96,7 +96,7 @@ impl Queue {
         }
     }
 
-    // Whether the second part begins after an instant.
+    /// Whether the second part begins after an instant.
     fn begins_after(&self, moment: Moment) -> bool
         ensures { result ≡ begins_after moment self.now.back.items }
     {
@@ -106,7 +106,7 @@ impl Queue {
         }
     }
 
-    // Moves what is at an instant or later to the second part.
+    /// Moves what is at an instant or later to the second part.
     fn move_back(&mut self, moment: Moment) -> Result<(), AllocError>
         ensures same { waiting_in self.new ≡ waiting_in self.old }
         ensures parted { OnOk result (ends_before moment self.new.front.items ≡ true) }
@@ -120,7 +120,7 @@ impl Queue {
         Ok(())
     }
 
-    // Moves what is before an instant to the first part.
+    /// Moves what is before an instant to the first part.
     fn move_on(&mut self, moment: Moment) -> Result<(), AllocError>
         requires { ends_before moment self.old.front.items ≡ true }
         ensures same { waiting_in self.new ≡ waiting_in self.old }

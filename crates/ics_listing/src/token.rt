@@ -90,7 +90,7 @@ impl Token {
     }
 }
 
-// Why the digits of a UID were not read.
+/// Why the digits of a UID were not read.
 fn fault_of(fault: FromHexError) -> TokenFault
     ensures { result ≡ TokenFault.BadToken → fault ≢ OutOfMemory }
 {
@@ -100,7 +100,7 @@ fn fault_of(fault: FromHexError) -> TokenFault
     }
 }
 
-// The number before the first `.`, and the text after that.
+/// The number before the first `.`, and the text after that.
 pub(crate) fn field(text: &str) -> Option<(Moment, &str)>
     ensures { (number : ℤ) (rest : List ℕ) → FitsSigned w64 number → text.now ≡ signed_decimal number ++ (46 ∷ rest)
         → IsSomeAnd result (λ parts. (parts.0 ≡ number) × (parts.1.now ≡ rest)) }
@@ -110,7 +110,7 @@ pub(crate) fn field(text: &str) -> Option<(Moment, &str)>
     Some((number, rest))
 }
 
-// The two moments of a token's text, and the text after them.
+/// The two moments of a token's text, and the text after them.
 fn split(text: &str) -> Option<(Moment, Moment, &str)>
     ensures { (start recurrence : ℤ) (uid : List ℕ) → FitsSigned w64 start → FitsSigned w64 recurrence
         → text.now ≡ codes "K1." ++ (signed_decimal start ++ (46 ∷ (signed_decimal recurrence ++ (46 ∷ uid))))

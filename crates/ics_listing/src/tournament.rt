@@ -75,7 +75,7 @@ pub(crate) fn order_by_place(sorted_from: usize, one: usize, other: usize) -> Op
     }
 }
 
-// The first of the two leads that have won at the nodes below this one.
+/// The first of the two leads that have won at the nodes below this one.
 fn first_below<'a, F: Coming>(
     leads: &[Lead<'a, F>],
     sorted_from: usize,
@@ -98,7 +98,7 @@ fn first_below<'a, F: Coming>(
     }
 }
 
-// Whether a lead is before another: by their turns and, if these are the same, by their places.
+/// Whether a lead is before another: by their turns and, if these are the same, by their places.
 fn goes_first<'a, F: Coming>(
     leads: &[Lead<'a, F>],
     sorted_from: usize,
@@ -123,8 +123,8 @@ fn goes_first<'a, F: Coming>(
     }
 }
 
-// The order of two leads' turns, of which one holds nothing. One that was not read yet is before those that
-// hold an occurrence from its instant on, and one that has ended is behind all.
+/// The order of two leads' turns, of which one holds nothing. One that was not read yet is before those that
+/// hold an occurrence from its instant on, and one that has ended is behind all.
 fn compare_unheld<'a, F: Coming>(one: &Lead<'a, F>, other: &Lead<'a, F>) -> Ordering
     requires { IsUnheld one.now.head other.now.head }
     ensures { result ≡ head_cmp (turn_of one.now.unread one.now.head) (turn_of other.now.unread other.now.head) }

@@ -5,13 +5,13 @@ use Rattle.std.proofs.Math.Nat.{mul_comm}
 use Rattle.jiff_core.specs.Weekday.{monday_zero}
 use Rattle.ics_fields.specs.declared.frequency.Frequency.{Frequency}
 use Rattle.ics_fields.specs.declared.frequency.Frequency.TheVariants.{Monthly, Yearly}
-use Rattle.ics_rule.specs.declared.effective_rule.EffectiveRule.{EffectiveRule}
-use Rattle.ics_rule.specs.PeriodNumbers.{period, day_of}
-use Rattle.ics_rule.specs.Candidates.{lets_date, is_stepped, period_in}
-use Rattle.ics_rule.specs.RecurrencePeriods.{first_local}
+use Rattle.ics_period.specs.declared.effective_rule.EffectiveRule.{EffectiveRule}
+use Rattle.ics_period.specs.PeriodNumbers.{period, day_of}
+use Rattle.ics_period.specs.Candidates.{lets_date, is_stepped, period_in}
+use Rattle.ics_period.specs.RecurrencePeriods.{first_local}
 use Rattle.ics_rule.specs.Inner.Rounds.{calendar_periods, IsCalendarRound, IsRound}
 use Rattle.ics_rule.proofs.RoundLemmas.{clock_same, let_in_alike, step_repeats}
-use Rattle.ics_rule.proofs.Tests.{positive}
+use Rattle.ics_period.proofs.Tests.{positive}
 use Rattle.ics_rule.proofs.CycleLemmas.{years_again, months_again, year_again, month_again, date_again}
 
 period_again : (f : Frequency) (w n k : ℕ) → period f w (n + k * 12_622_780_800) ≡ period f w n + k * calendar_periods f

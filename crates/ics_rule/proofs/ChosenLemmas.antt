@@ -3,18 +3,18 @@ use Rattle.std.proofs.Common.{◌≡◌, ℕ, suc, ◌+◌, ◌-◌, ◌<◌, ma
 use Rattle.std.proofs.lemmas.Bool.{eq-eqb, eqb-true}
 use Rattle.ics_fields.specs.declared.ordinals.WideOrdinals.{WideOrdinals}
 use Rattle.ics_fields.specs.Ordinals.{lists_none_wide}
-use Rattle.ics_rule.specs.declared.effective_rule.EffectiveRule.{EffectiveRule}
-use Rattle.ics_rule.specs.declared.recurrence_period.RecurrencePeriod.{RecurrencePeriod}
-use Rattle.ics_rule.specs.PeriodNumbers.{day_of}
-use Rattle.ics_rule.specs.Candidates.{is_stepped, is_candidate_in, period_in, lets_date, lets_clock}
-use Rattle.ics_rule.specs.Kept.{count, is_beside, rank, size, is_placed, is_chosen}
-use Rattle.ics_rule.specs.RecurrencePeriods.{holds, is_let_in, IsPeriodOf, is_taken}
+use Rattle.ics_period.specs.declared.effective_rule.EffectiveRule.{EffectiveRule}
+use Rattle.ics_period.specs.declared.recurrence_period.RecurrencePeriod.{RecurrencePeriod}
+use Rattle.ics_period.specs.PeriodNumbers.{day_of}
+use Rattle.ics_period.specs.Candidates.{is_stepped, is_candidate_in, period_in, lets_date, lets_clock}
+use Rattle.ics_period.specs.Ranks.{count, is_beside, rank, size, is_placed, is_chosen}
+use Rattle.ics_period.specs.RecurrencePeriods.{holds, is_let_in, IsPeriodOf, is_taken}
 use Rattle.ics_rule.specs.Inner.Searches.{is_chosen_within}
 use Rattle.ics_rule.specs.ByTable.{is_nth}
-use Rattle.ics_rule.proofs.Counts.{count-same, count-suc, count_one}
+use Rattle.ics_period.proofs.Counts.{count-same, count-suc, count_one}
 use Rattle.ics_fields.specs.Locals.{calendar_end}
-use Rattle.ics_rule.proofs.RankLemmas.{rank_listed, placed_of}
-use Rattle.ics_rule.proofs.Tests.{keep_true, swapped}
+use Rattle.ics_period.proofs.RankLemmas.{rank_listed, placed_of}
+use Rattle.ics_period.proofs.Tests.{keep_true, swapped}
 
 -- outside of the steps nothing is chosen
 pub no_step : (q : EffectiveRule) (start n : ℕ) → is_stepped (period_in q start) q.interval (period_in q n) ≡ false → is_chosen q start n ≡ false

@@ -4,21 +4,21 @@ use Rattle.std.proofs.lemmas.Bool.{cases_lt, ne_eqb}
 use Rattle.std.proofs.lemmas.Bool.Decides.{nat_tests}
 use Rattle.jiff_core.specs.Weekday.{monday_zero}
 use Rattle.ics_fields.specs.Ordinals.{lists_none_wide}
-use Rattle.ics_rule.specs.declared.effective_rule.EffectiveRule.{EffectiveRule}
-use Rattle.ics_rule.specs.declared.recurrence_period.RecurrencePeriod.{RecurrencePeriod}
+use Rattle.ics_period.specs.declared.effective_rule.EffectiveRule.{EffectiveRule}
+use Rattle.ics_period.specs.declared.recurrence_period.RecurrencePeriod.{RecurrencePeriod}
 use Rattle.ics_rule.specs.declared.cursor.Cursor.{Cursor}
-use Rattle.ics_rule.specs.Candidates.{is_stepped, period_in}
-use Rattle.ics_rule.specs.Kept.{count, is_chosen}
-use Rattle.ics_rule.specs.RecurrencePeriods.{first_local, IsPeriodOf, is_taken}
+use Rattle.ics_period.specs.Candidates.{is_stepped, period_in}
+use Rattle.ics_period.specs.Ranks.{count, is_chosen}
+use Rattle.ics_period.specs.RecurrencePeriods.{first_local, IsPeriodOf, is_taken}
 use Rattle.ics_rule.specs.Cursors.{IsCounted}
 use Rattle.ics_rule.specs.Inner.Searches.{is_few, IsPassed, AllCounted, IsTurned, after_look}
-use Rattle.ics_rule.proofs.PeriodLemmas.{begun, begins, first_in, period_mono, week_small, before_first}
-use Rattle.ics_rule.proofs.Counts.{count_between, count-none, count_mono, count_most}
-use Rattle.ics_rule.proofs.RankLemmas.{count_flat}
+use Rattle.ics_period.proofs.PeriodLemmas.{begun, begins, first_in, period_mono, week_small, before_first}
+use Rattle.ics_period.proofs.Counts.{count_between, count-none, count_mono, count_most}
+use Rattle.ics_period.proofs.RankLemmas.{count_flat}
 use Rattle.ics_rule.proofs.StepLemmas.{stepped_parts, none_between}
 use Rattle.ics_rule.proofs.ChosenLemmas.{no_step, taken_within}
 use Rattle.ics_rule.proofs.CursorLemmas.{within_here}
-use Rattle.ics_rule.specs.PeriodNumbers.{rules_end}
+use Rattle.ics_period.specs.PeriodNumbers.{rules_end}
 
 -- a period that lies a multiple of the interval from the start's is not before it
 pub step_low : (q : EffectiveRule) (start number : ℕ) → is_stepped (period_in q start) q.interval number ≡ true → period_in q 0 ≤ number

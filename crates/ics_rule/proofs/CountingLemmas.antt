@@ -6,17 +6,17 @@ use Rattle.std.proofs.lemmas.Nat.{mod-mul-add}
 use Rattle.jiff_core.specs.Weekday.{monday_zero}
 use Rattle.ics_fields.specs.Sets.{IsLeastFrom}
 use Rattle.ics_fields.specs.Ordinals.{lists_none_wide}
-use Rattle.ics_rule.specs.declared.effective_rule.EffectiveRule.{EffectiveRule}
-use Rattle.ics_rule.specs.declared.recurrence_period.RecurrencePeriod.{RecurrencePeriod}
+use Rattle.ics_period.specs.declared.effective_rule.EffectiveRule.{EffectiveRule}
+use Rattle.ics_period.specs.declared.recurrence_period.RecurrencePeriod.{RecurrencePeriod}
 use Rattle.ics_rule.specs.declared.cursor.Cursor.{Cursor}
-use Rattle.ics_rule.specs.Candidates.{is_stepped, period_in}
-use Rattle.ics_rule.specs.Kept.{count, is_chosen}
-use Rattle.ics_rule.specs.RecurrencePeriods.{is_taken}
+use Rattle.ics_period.specs.Candidates.{is_stepped, period_in}
+use Rattle.ics_period.specs.Ranks.{count, is_chosen}
+use Rattle.ics_period.specs.RecurrencePeriods.{is_taken}
 use Rattle.ics_rule.specs.Cursors.{CountedBy}
 use Rattle.ics_rule.specs.Inner.Searches.{is_chosen_within, is_few, is_wanted, NoneWanted, IsWalked, LooksAt, IsTurnOf, IsNextOpen}
 use Rattle.ics_rule.specs.Inner.Searches.{AllCounted, IsTurned}
 use Rattle.ics_rule.specs.Inner.Rounds.{IsPassedTo}
-use Rattle.ics_rule.proofs.PeriodLemmas.{begun, period_mono}
+use Rattle.ics_period.proofs.PeriodLemmas.{begun, period_mono}
 use Rattle.ics_rule.proofs.StepLemmas.{stepped_parts, stepped_shown}
 use Rattle.ics_rule.proofs.ChosenLemmas.{not_let_in, taken_within}
 use Rattle.ics_rule.proofs.CursorLemmas.{IsWalk, walk_until, walk_finds, walk_found, walk_stopped, walk_goes_on, next_same, within_facts}

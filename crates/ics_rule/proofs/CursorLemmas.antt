@@ -5,20 +5,20 @@ use Rattle.std.proofs.lemmas.Bool.{and_parts, cases_lt, eq-eqb}
 use Rattle.std.proofs.lemmas.Bool.Decides.{nat_tests}
 use Rattle.jiff_core.specs.Weekday.{monday_zero}
 use Rattle.ics_fields.specs.Sets.{IsLeastFrom, IsNextIn}
-use Rattle.ics_rule.specs.declared.effective_rule.EffectiveRule.{EffectiveRule}
-use Rattle.ics_rule.specs.declared.recurrence_period.RecurrencePeriod.{RecurrencePeriod}
+use Rattle.ics_period.specs.declared.effective_rule.EffectiveRule.{EffectiveRule}
+use Rattle.ics_period.specs.declared.recurrence_period.RecurrencePeriod.{RecurrencePeriod}
 use Rattle.ics_rule.specs.declared.cursor.Cursor.{Cursor}
-use Rattle.ics_rule.specs.Candidates.{is_stepped, period_in}
-use Rattle.ics_rule.specs.Kept.{count, is_chosen}
-use Rattle.ics_rule.specs.RecurrencePeriods.{first_local, IsPeriodOf}
+use Rattle.ics_period.specs.Candidates.{is_stepped, period_in}
+use Rattle.ics_period.specs.Ranks.{count, is_chosen}
+use Rattle.ics_period.specs.RecurrencePeriods.{first_local, IsPeriodOf}
 use Rattle.ics_rule.specs.Cursors.{is_met, fresh, HeldBy, CountedBy, IsCursorIn, HasLookedIn, looks_from, period_count, steps_of, IsCursorOf}
 use Rattle.ics_rule.specs.Cursors.{HasLooked}
-use Rattle.ics_rule.specs.EffectiveRules.{effective}
-use Rattle.ics_rule.specs.Recurrence.{Recurrence}
+use Rattle.ics_period.specs.EffectiveRules.{effective}
+use Rattle.ics_period.specs.Recurrence.{Recurrence}
 use Rattle.ics_rule.specs.Inner.Searches.{IsNextOpen, is_chosen_within, is_wanted, NoneWanted, HasMoved, IsWalked, LooksAt, after_look}
-use Rattle.ics_rule.proofs.PeriodLemmas.{begun, first_in, period_mono, period_small, week_small, before_next}
-use Rattle.ics_rule.proofs.Counts.{count-suc, count_some, count_mono, count_most, count_one_more, count_every}
-use Rattle.ics_rule.proofs.RankLemmas.{found}
+use Rattle.ics_period.proofs.PeriodLemmas.{begun, first_in, period_mono, period_small, week_small, before_next}
+use Rattle.ics_period.proofs.Counts.{count-suc, count_some, count_mono, count_most, count_one_more, count_every}
+use Rattle.ics_period.proofs.RankLemmas.{found}
 use Rattle.ics_rule.proofs.StepLemmas.{none_between}
 use Rattle.ics_rule.proofs.ChosenLemmas.{no_step, not_let_in}
 use Rattle.ics_fields.specs.Locals.{calendar_end, number}

@@ -7,10 +7,10 @@ use Rattle.ics_fields.specs.declared.frequency.Frequency.{Frequency}
 use Rattle.ics_fields.specs.declared.ordinals.Ordinals.{Ordinals}
 use Rattle.ics_fields.specs.Days.{days_before_year, year_of, year_day_of, month_from, month_of, month_day_of, weekday_of}
 use Rattle.ics_fields.proofs.DayLemmas.{year_under_way, year_of_is}
-use Rattle.ics_rule.specs.declared.effective_rule.EffectiveRule.{EffectiveRule}
-use Rattle.ics_rule.specs.PeriodNumbers.{week_of}
-use Rattle.ics_rule.specs.Candidates.{lets_place, lists_nth, fourth_day, week_number, weeks_of_year, lets_numbered, lets_date}
-use Rattle.ics_rule.proofs.PeriodLemmas.{fourth_early, fourth_late}
+use Rattle.ics_period.specs.declared.effective_rule.EffectiveRule.{EffectiveRule}
+use Rattle.ics_period.specs.PeriodNumbers.{week_of}
+use Rattle.ics_period.specs.Candidates.{lets_place, lists_nth, fourth_day, week_number, weeks_of_year, lets_numbered, lets_date}
+use Rattle.ics_period.proofs.PeriodLemmas.{fourth_early, fourth_late}
 
 -- k times 400 years later
 module _ (k : ℕ) where

@@ -7,18 +7,18 @@ use Rattle.jiff_core.specs.Weekday.{monday_zero}
 use Rattle.ics_fields.specs.declared.frequency.Frequency.{Frequency}
 use Rattle.ics_fields.specs.declared.frequency.Frequency.TheVariants.{Secondly, Minutely, Hourly, Daily}
 use Rattle.ics_fields.specs.Ordinals.{lists_none_wide}
-use Rattle.ics_rule.specs.declared.effective_rule.EffectiveRule.{EffectiveRule}
-use Rattle.ics_rule.specs.PeriodNumbers.{period}
-use Rattle.ics_rule.specs.Candidates.{lets, lets_date, lets_clock, is_stepped, period_in}
-use Rattle.ics_rule.specs.Kept.{count, is_chosen}
-use Rattle.ics_rule.specs.RecurrencePeriods.{first_local}
+use Rattle.ics_period.specs.declared.effective_rule.EffectiveRule.{EffectiveRule}
+use Rattle.ics_period.specs.PeriodNumbers.{period}
+use Rattle.ics_period.specs.Candidates.{lets, lets_date, lets_clock, is_stepped, period_in}
+use Rattle.ics_period.specs.Ranks.{count, is_chosen}
+use Rattle.ics_period.specs.RecurrencePeriods.{first_local}
 use Rattle.ics_rule.specs.Inner.Rounds.{seconds_of, chosen_to}
 use Rattle.ics_rule.specs.Inner.OpenPeriods.{per_day, lets_own, lets_within, is_open_period, size_of_open, chosen_of_size, chosen_in_open}
-use Rattle.ics_rule.proofs.Counts.{count-same, count-suc, count-all, count-product, count_every, count_most}
-use Rattle.ics_rule.proofs.ProductCounts.{count_zero}
+use Rattle.ics_period.proofs.Counts.{count-same, count-suc, count-all, count-product, count_every, count_most}
+use Rattle.ics_period.proofs.ProductCounts.{count_zero}
 use Rattle.ics_rule.proofs.SizeLemmas.{let_at, longest, counted, chosen_adds}
 use Rattle.ics_fields.specs.Locals.{calendar_end}
-use Rattle.ics_rule.proofs.Tests.{and_assoc}
+use Rattle.ics_period.proofs.Tests.{and_assoc}
 
 -- the clock is a period's own and what is within it
 pub clock_split : (f : Frequency) (q : EffectiveRule) (n : ℕ) → lets_clock q n ≡ (lets_own f q n && lets_within f q n)

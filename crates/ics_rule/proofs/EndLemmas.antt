@@ -4,12 +4,13 @@ use Rattle.std.proofs.lemmas.Bool.{eqb-true}
 use Rattle.std.proofs.lemmas.Bool.Decides.{nat_tests}
 use Rattle.ics_fields.specs.declared.frequency.Frequency.{Frequency}
 use Rattle.ics_fields.specs.Locals.{number}
-use Rattle.ics_rule.specs.Recurrence.{Recurrence}
-use Rattle.ics_rule.specs.PeriodNumbers.{rules_end}
-use Rattle.ics_rule.specs.EffectiveRules.{takes_month, takes_month_day, takes_weekday, effective}
-use Rattle.ics_rule.specs.Kept.{is_chosen, is_in_rule, is_by_until, is_counted, is_kept}
+use Rattle.ics_period.specs.Recurrence.{Recurrence}
+use Rattle.ics_period.specs.PeriodNumbers.{rules_end}
+use Rattle.ics_period.specs.EffectiveRules.{takes_month, takes_month_day, takes_weekday, effective}
+use Rattle.ics_period.specs.Ranks.{is_chosen}
+use Rattle.ics_rule.specs.Kept.{is_in_rule, is_by_until, is_counted, is_kept}
 use Rattle.ics_rule.specs.CountBounds.{without_count}
-use Rattle.ics_rule.proofs.Counts.{count_mono}
+use Rattle.ics_period.proofs.Counts.{count_mono}
 use Rattle.ics_rule.proofs.NextLemmas.{in_rule_earlier}
 
 -- the members are those of the rule without COUNT

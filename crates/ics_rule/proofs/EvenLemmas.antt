@@ -8,22 +8,22 @@ use Rattle.ics_fields.specs.declared.frequency.Frequency.TheVariants.{Monthly, Y
 use Rattle.ics_fields.specs.Days.{days_before_year}
 use Rattle.ics_fields.specs.Ordinals.{lists_none_wide}
 use Rattle.ics_fields.proofs.DayLemmas.{days_before_year_low}
-use Rattle.ics_rule.specs.declared.effective_rule.EffectiveRule.{EffectiveRule}
-use Rattle.ics_rule.specs.Candidates.{is_stepped, period_in}
-use Rattle.ics_rule.specs.Kept.{count, is_chosen}
-use Rattle.ics_rule.specs.RecurrencePeriods.{first_local}
+use Rattle.ics_period.specs.declared.effective_rule.EffectiveRule.{EffectiveRule}
+use Rattle.ics_period.specs.Candidates.{is_stepped, period_in}
+use Rattle.ics_period.specs.Ranks.{count, is_chosen}
+use Rattle.ics_period.specs.RecurrencePeriods.{first_local}
 use Rattle.ics_rule.specs.Inner.OpenPeriods.{chosen_of_size}
 use Rattle.ics_rule.specs.Inner.Rounds.{IsFlat, IsRound, IsEvenRound, chosen_to}
-use Rattle.ics_rule.proofs.Counts.{count-same, count_mono, count_one_more}
-use Rattle.ics_rule.proofs.RankLemmas.{count_flat}
-use Rattle.ics_rule.proofs.PeriodLemmas.{begun, begins, before_first, before_next, is_short, period_mono}
+use Rattle.ics_period.proofs.Counts.{count-same, count_mono, count_one_more}
+use Rattle.ics_period.proofs.RankLemmas.{count_flat}
+use Rattle.ics_period.proofs.PeriodLemmas.{begun, begins, before_first, before_next, is_short, period_mono}
 use Rattle.ics_rule.proofs.CountLemmas.{first_mono}
 use Rattle.ics_rule.proofs.StepLemmas.{stepped_parts}
 use Rattle.ics_rule.proofs.RoundLemmas.{step_repeats}
 use Rattle.ics_rule.proofs.FlatLemmas.{allowed_before, month_local, month_adds, month_is, year_is}
 use Rattle.ics_rule.proofs.SizeLemmas.{let_at, longest, chosen_adds, size_adds}
-use Rattle.ics_rule.specs.PeriodNumbers.{rules_end}
-use Rattle.ics_rule.proofs.Tests.{positive}
+use Rattle.ics_period.specs.PeriodNumbers.{rules_end}
+use Rattle.ics_period.proofs.Tests.{positive}
 
 -- a period is the start's or later, by a multiple of the interval
 abbrev IsStep : EffectiveRule → ℕ → ℕ → Type 0

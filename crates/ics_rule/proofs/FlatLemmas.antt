@@ -9,18 +9,18 @@ use Rattle.jiff_core.specs.Calendar.{days_in_month}
 use Rattle.jiff_core.proofs.CalendarLemmas.{days_in_month_bounds, days_of_months-zero}
 use Rattle.ics_fields.specs.Sets.{contains, IsNextIn}
 use Rattle.ics_fields.specs.Days.{days_before_year}
-use Rattle.ics_rule.specs.declared.effective_rule.EffectiveRule.{EffectiveRule}
-use Rattle.ics_rule.specs.PeriodNumbers.{day_of}
-use Rattle.ics_rule.specs.Candidates.{lets, lets_date, lets_clock}
-use Rattle.ics_rule.specs.Kept.{count}
-use Rattle.ics_rule.specs.RecurrencePeriods.{month_start}
+use Rattle.ics_period.specs.declared.effective_rule.EffectiveRule.{EffectiveRule}
+use Rattle.ics_period.specs.PeriodNumbers.{day_of}
+use Rattle.ics_period.specs.Candidates.{lets, lets_date, lets_clock}
+use Rattle.ics_period.specs.Ranks.{count}
+use Rattle.ics_period.specs.RecurrencePeriods.{month_start}
 use Rattle.ics_rule.specs.Inner.Rounds.{IsFlat}
-use Rattle.ics_rule.proofs.Counts.{count-same, count-add}
-use Rattle.ics_rule.proofs.RankLemmas.{count_flat}
-use Rattle.ics_rule.proofs.PeriodLemmas.{month_size}
+use Rattle.ics_period.proofs.Counts.{count-same, count-add}
+use Rattle.ics_period.proofs.RankLemmas.{count_flat}
+use Rattle.ics_period.proofs.PeriodLemmas.{month_size}
 use Rattle.ics_rule.proofs.RoundLemmas.{clock_same}
-use Rattle.ics_rule.proofs.DayWalkLemmas.{fields_at}
-use Rattle.ics_rule.proofs.MonthDays.{three_parts, goes}
+use Rattle.ics_period.proofs.DayWalkLemmas.{fields_at}
+use Rattle.ics_period.proofs.MonthDays.{three_parts, goes}
 
 -- where there is no next member, none is left
 pub none_from : (test : ℕ → Bool) {n : ℕ} (o : Option ℕ) → is_some o ≡ false → IsNextIn test n o → (m : ℕ) → n ≤ m → test m ≡ false

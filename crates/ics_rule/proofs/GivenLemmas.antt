@@ -1,38 +1,16 @@
 -- What a rule keeps gives back the parts that it was given.
-use Rattle.std.proofs.Common.{◌≡◌, ℕ, zero, suc, Bool, true, false, ◌&&◌, List, [], ◌∷◌, length, refl, sym, arith}
+use Rattle.std.proofs.Common.{◌≡◌, ℕ, Bool, true, false, ◌&&◌, refl, sym, arith}
 use Rattle.std.specs.Prelude.{if◌then◌else◌}
 use Rattle.std.proofs.lemmas.Bool.{and_parts, eqb-true}
-use Rattle.ics_fields.specs.Ordinals.{no_ordinals, no_weekdays, all_list_none, lists_none, lists_none_wide, lists_no_weekday}
+use Rattle.ics_fields.specs.Ordinals.{no_ordinals, no_weekdays, lists_none, lists_none_wide, lists_no_weekday}
 use Rattle.ics_fields.specs.RuleParts.{RuleParts}
 use Rattle.ics_fields.specs.Sets.{is_empty}
 use Rattle.ics_fields.specs.declared.frequency.Frequency.{Frequency}
 use Rattle.ics_fields.specs.declared.frequency.Frequency.TheVariants.{Secondly, Minutely, Hourly, Daily, Weekly, Monthly, Yearly}
-use Rattle.ics_fields.specs.declared.ordinals.Ordinals.{Ordinals}
-use Rattle.ics_rule.specs.declared.kind.Kind.{Kind}
-use Rattle.ics_rule.specs.EffectiveRules.{effective_at, takes_month, takes_month_day, takes_weekday}
+use Rattle.ics_period.specs.declared.kind.Kind.{Kind}
+use Rattle.ics_period.specs.EffectiveRules.{effective_at, takes_month, takes_month_day, takes_weekday}
 use Rattle.ics_rule.specs.Inner.Given.{given_of, parts_of}
-
--- a part that lists nothing is the empty one
-no-ordinal : (o : Ordinals) → lists_none o ≡ true → o ≡ no_ordinals
-no-ordinal o none =
-    let both = and_parts (is_empty o.front) (is_empty o.back) none in
-    let front = eqb-true o.front 0 both.0 in
-    let back = eqb-true o.back 0 both.1 in
-    λ i. record { front = front i; back = back i }
-
-abbrev pub nothing : ℕ → List Ordinals
-nothing zero = []
-nothing (suc n) = no_ordinals ∷ nothing n
-
-pub no-numbers : (n : ℕ) (os : List Ordinals) → length os ≡ n → all_list_none os ≡ true → os ≡ nothing n
-no-numbers zero [] long none = refl
-no-numbers zero (o ∷ os) long none = absurd (omega arith)
-no-numbers (suc n) [] long none = absurd (omega arith)
-no-numbers (suc n) (o ∷ os) long none =
-    let both = and_parts (lists_none o) (all_list_none os) none in
-    let first = no-ordinal o both.0 in
-    let rest = no-numbers n os (omega arith) both.1 in
-    λ i. first i ∷ rest i
+use Rattle.ics_period.proofs.AbsentLemmas.{no-ordinal}
 
 -- what names no day has no days of the month
 first-named : (a b c d : Bool) → ((a && b && c) && d) ≡ true → a ≡ true

@@ -7,20 +7,21 @@ use Rattle.ics_fields.specs.declared.frequency.Frequency.{Frequency}
 use Rattle.ics_fields.specs.declared.until.Until.{Until}
 use Rattle.ics_fields.specs.Sets.{contains, is_empty}
 use Rattle.ics_fields.specs.Ordinals.{lists_none_wide}
-use Rattle.ics_rule.specs.declared.kind.Kind.{Kind}
-use Rattle.ics_rule.specs.declared.effective_rule.EffectiveRule.{EffectiveRule}
-use Rattle.ics_rule.specs.Recurrence.{Recurrence}
-use Rattle.ics_rule.specs.PeriodNumbers.{period, day_of, hour_of, minute_of, second_of, rules_end}
+use Rattle.ics_period.specs.declared.kind.Kind.{Kind}
+use Rattle.ics_period.specs.declared.effective_rule.EffectiveRule.{EffectiveRule}
+use Rattle.ics_period.specs.Recurrence.{Recurrence}
+use Rattle.ics_period.specs.PeriodNumbers.{period, day_of, hour_of, minute_of, second_of, rules_end}
 use Rattle.ics_fields.specs.Locals.{number}
-use Rattle.ics_rule.specs.EffectiveRules.{effective, skips_hours}
-use Rattle.ics_rule.specs.Candidates.{lets, lets_clock}
-use Rattle.ics_rule.specs.Kept.{is_chosen, is_kept, is_by_until, KeepsTimes}
+use Rattle.ics_period.specs.EffectiveRules.{effective, skips_hours}
+use Rattle.ics_period.specs.Candidates.{lets, lets_clock}
+use Rattle.ics_period.specs.Ranks.{is_chosen}
+use Rattle.ics_rule.specs.Kept.{is_kept, is_by_until, KeepsTimes}
 use Rattle.ics_rule.specs.Inner.Searches.{is_wanted}
 use Rattle.ics_rule.specs.declared.hour.HourTimes.{HourTimes}
 use Rattle.ics_rule.specs.Inner.HoursKept.{KeepsEnds}
 use Rattle.ics_rule.specs.Next.{NoneKept}
-use Rattle.ics_rule.proofs.Counts.{count_mono}
-use Rattle.ics_rule.proofs.KeptLemmas.{and_true}
+use Rattle.ics_period.proofs.Counts.{count_mono}
+use Rattle.ics_period.proofs.Tests.{and_true}
 use Rattle.ics_rule.proofs.NextLemmas.{kept_later}
 
 -- the locals of a day lie in one period, but under a rule that repeats more often than daily

@@ -6,15 +6,15 @@ use Rattle.jiff_core.specs.Weekday.{monday_zero}
 use Rattle.ics_fields.specs.Sets.{contains_wide}
 use Rattle.ics_fields.specs.Ordinals.{lists_none_wide}
 use Rattle.ics_fields.specs.declared.frequency.Frequency.{Frequency}
-use Rattle.ics_rule.specs.declared.effective_rule.EffectiveRule.{EffectiveRule}
+use Rattle.ics_period.specs.declared.effective_rule.EffectiveRule.{EffectiveRule}
 use Rattle.ics_rule.specs.declared.cursor.Cursor.{Cursor}
-use Rattle.ics_rule.specs.PeriodNumbers.{rules_end}
-use Rattle.ics_rule.specs.Candidates.{period_in}
-use Rattle.ics_rule.specs.Kept.{count, is_chosen}
-use Rattle.ics_rule.specs.RecurrencePeriods.{first_local, is_listed}
+use Rattle.ics_period.specs.PeriodNumbers.{rules_end}
+use Rattle.ics_period.specs.Candidates.{period_in}
+use Rattle.ics_period.specs.Ranks.{count, is_chosen}
+use Rattle.ics_period.specs.RecurrencePeriods.{first_local, is_listed}
 use Rattle.ics_rule.specs.Cursors.{IsCursorIn}
 use Rattle.ics_rule.specs.Inner.Searches.{NoneWanted, IsWalked}
-use Rattle.ics_rule.proofs.Counts.{count-none, count_some}
+use Rattle.ics_period.proofs.Counts.{count-none, count_some}
 use Rattle.ics_rule.specs.Inner.Rounds.{seconds_of}
 use Rattle.ics_rule.specs.Inner.OpenPeriods.{per_day, is_open_period, size_of_open, chosen_of_size, chosen_in_open}
 use Rattle.ics_rule.proofs.EachLemmas.{total_open}

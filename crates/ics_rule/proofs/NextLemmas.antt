@@ -3,16 +3,17 @@ use Rattle.std.proofs.Common.{◌≡◌, ℕ, suc, ◌+◌, ◌-◌, ◌<◌, �
 use Rattle.std.proofs.Common.{MatchOption, refl, sym, ap, ◌∙◌, arith}
 use Rattle.std.proofs.lemmas.Bool.{and_right, cases_lt, le-ltb, lt-ltb, eq-eqb}
 use Rattle.std.proofs.lemmas.Bool.Decides.{nat_tests}
-use Rattle.ics_rule.specs.Recurrence.{Recurrence}
-use Rattle.ics_rule.specs.PeriodNumbers.{rules_end}
+use Rattle.ics_period.specs.Recurrence.{Recurrence}
+use Rattle.ics_period.specs.PeriodNumbers.{rules_end}
 use Rattle.ics_fields.specs.Locals.{number}
-use Rattle.ics_rule.specs.EffectiveRules.{effective}
-use Rattle.ics_rule.specs.Kept.{count, is_chosen, is_kept, is_in_rule, is_by_until, is_counted}
+use Rattle.ics_period.specs.EffectiveRules.{effective}
+use Rattle.ics_period.specs.Ranks.{count, is_chosen}
+use Rattle.ics_rule.specs.Kept.{is_kept, is_in_rule, is_by_until, is_counted}
 use Rattle.ics_fields.specs.Sets.{IsLeastFrom}
 use Rattle.ics_rule.specs.Inner.Searches.{is_few, is_wanted, NoneWanted, IsNextWanted}
 use Rattle.ics_rule.specs.Next.{NoneKept, IsNextKept}
-use Rattle.ics_rule.proofs.Counts.{count-suc, count-none, count_between, count_mono, count_one}
-use Rattle.ics_rule.proofs.Tests.{keep_true, unequal}
+use Rattle.ics_period.proofs.Counts.{count-suc, count-none, count_between, count_mono, count_one}
+use Rattle.ics_period.proofs.Tests.{keep_true, unequal}
 
 -- what the rule has: the start, nothing before it, and later what it chooses
 pub in_rule_start : (r : Recurrence) → is_in_rule r (number r.start) ≡ true

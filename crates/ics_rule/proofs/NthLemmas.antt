@@ -10,17 +10,17 @@ use Rattle.ics_fields.specs.declared.ordinals.WideOrdinals.{WideOrdinals}
 use Rattle.ics_fields.specs.Sets.{contains, contains_wide}
 use Rattle.ics_fields.specs.Days.{days_before_year, year_of, year_day_of, month_of, month_day_of, weekday_of}
 use Rattle.ics_fields.proofs.DayLemmas.{days_before_year-next, year_of_is, year_under_way}
-use Rattle.ics_rule.specs.PeriodNumbers.{month_number}
-use Rattle.ics_rule.specs.Candidates.{lists, lists_wide, lists_nth, fourth_day, week_number, weeks_of_year}
-use Rattle.ics_rule.specs.Kept.{count}
-use Rattle.ics_rule.specs.RecurrencePeriods.{month_start}
+use Rattle.ics_period.specs.PeriodNumbers.{month_number}
+use Rattle.ics_period.specs.Candidates.{lists, lists_wide, lists_nth, fourth_day, week_number, weeks_of_year}
+use Rattle.ics_period.specs.Ranks.{count}
+use Rattle.ics_period.specs.RecurrencePeriods.{month_start}
 use Rattle.ics_rule.specs.PlainReading.{is_nth, is_place, is_wide_place, in_year, in_month, with_weekday, fourth_of_week, is_week}
-use Rattle.ics_rule.proofs.Counts.{count-same, count-suc, count-none, count-from, count_every}
-use Rattle.ics_rule.proofs.Months.{month_high, month_positive}
-use Rattle.ics_rule.proofs.PeriodLemmas.{month_begun, month_begins, month_size, fourth_late}
+use Rattle.ics_period.proofs.Counts.{count-same, count-suc, count-none, count-from, count_every}
+use Rattle.ics_period.proofs.Months.{month_high, month_positive}
+use Rattle.ics_period.proofs.PeriodLemmas.{month_begun, month_begins, month_size, fourth_late}
 use Rattle.ics_rule.proofs.CycleLemmas.{year_day_again, year_size_of, fourth_again}
-use Rattle.ics_rule.proofs.RankLemmas.{count_flat}
-use Rattle.ics_rule.proofs.LawLemmas.{year_day_is}
+use Rattle.ics_period.proofs.RankLemmas.{count_flat}
+use Rattle.ics_period.proofs.WeekLemmas.{year_day_is}
 use Rattle.ics_fields.specs.Locals.{calendar_end}
 
 -- the days that pass are those from a on and before b

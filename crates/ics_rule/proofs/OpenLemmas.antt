@@ -7,16 +7,16 @@ use Rattle.std.proofs.lemmas.Nat.{div-add-mod', mod-mul-add, le-div, div_below, 
 use Rattle.std.proofs.Math.Nat.{add-mul, mod-lt, mul_comm, mul_assoc, mul-le-mul_right}
 use Rattle.ics_fields.specs.declared.frequency.Frequency.{Frequency}
 use Rattle.ics_fields.specs.Sets.{IsLeastFrom}
-use Rattle.ics_rule.specs.declared.effective_rule.EffectiveRule.{EffectiveRule}
-use Rattle.ics_rule.specs.Candidates.{lets_date, is_stepped}
-use Rattle.ics_rule.specs.Kept.{count}
+use Rattle.ics_period.specs.declared.effective_rule.EffectiveRule.{EffectiveRule}
+use Rattle.ics_period.specs.Candidates.{lets_date, is_stepped}
+use Rattle.ics_period.specs.Ranks.{count}
 use Rattle.ics_rule.specs.Inner.Rounds.{seconds_of}
 use Rattle.ics_rule.specs.Inner.OpenPeriods.{per_day, lets_own, is_timely, is_open_period}
-use Rattle.ics_rule.proofs.Counts.{count-same, count-suc, count-add, count-none, count-product, count_between, count_most, count_mono, count_one_more}
-use Rattle.ics_rule.proofs.RankLemmas.{count_flat}
+use Rattle.ics_period.proofs.Counts.{count-same, count-suc, count-add, count-none, count-product, count_between, count_most, count_mono, count_one_more}
+use Rattle.ics_period.proofs.RankLemmas.{count_flat}
 use Rattle.ics_rule.proofs.StepLemmas.{stepped_parts, stepped_shown, step_on, none_between}
 use Rattle.ics_rule.proofs.RoundLemmas.{step_repeats}
-use Rattle.ics_rule.proofs.Tests.{positive}
+use Rattle.ics_period.proofs.Tests.{positive}
 
 -- counts of tests of which each number passes as many
 count-sum : (n : ℕ) (f g h : ℕ → Bool) → ((m : ℕ) → cond (h m) 1 0 ≡ cond (f m) 1 0 + cond (g m) 1 0) → count n h ≡ count n f + count n g

@@ -3,12 +3,12 @@ use Rattle.std.proofs.Common.{◌≡◌, ℕ, ◌+◌, ◌-◌, ◌*◌, ◌/◌
 use Rattle.std.proofs.lemmas.Bool.{and_right, cases_lt}
 use Rattle.jiff_core.specs.Weekday.{monday_zero}
 use Rattle.ics_fields.specs.Sets.{contains, IsLeastFrom}
-use Rattle.ics_rule.specs.declared.effective_rule.EffectiveRule.{EffectiveRule}
-use Rattle.ics_rule.specs.Candidates.{lets, lets_date, lets_clock, is_stepped, period_in}
-use Rattle.ics_rule.specs.RecurrencePeriods.{first_local, has_time}
+use Rattle.ics_period.specs.declared.effective_rule.EffectiveRule.{EffectiveRule}
+use Rattle.ics_period.specs.Candidates.{lets, lets_date, lets_clock, is_stepped, period_in}
+use Rattle.ics_period.specs.RecurrencePeriods.{first_local, has_time}
 use Rattle.ics_rule.specs.Inner.Searches.{NoneLetIn, IsNextOpen}
-use Rattle.ics_rule.proofs.ScanLemmas.{time_at}
-use Rattle.ics_rule.proofs.PeriodLemmas.{begun, begins, period_mono}
+use Rattle.ics_period.proofs.ScanLemmas.{time_at}
+use Rattle.ics_period.proofs.PeriodLemmas.{begun, begins, period_mono}
 
 -- the step of a local before which the rule lets nothing in
 pub step_open : {q : EffectiveRule} {first number begin place next : ℕ} → begin ≡ first_local q.frequency (monday_zero q.week_start) number → begin ≤ place →

@@ -4,25 +4,25 @@ use Rattle.std.proofs.Common.{subst, ap, ◌∙◌, arith}
 use Rattle.std.proofs.lemmas.Bool.{cases_lt}
 use Rattle.std.proofs.lemmas.Bool.Decides.{nat_tests}
 use Rattle.jiff_core.specs.Weekday.{monday_zero}
-use Rattle.ics_rule.specs.declared.effective_rule.EffectiveRule.{EffectiveRule}
-use Rattle.ics_rule.specs.declared.recurrence_period.RecurrencePeriod.{RecurrencePeriod}
+use Rattle.ics_period.specs.declared.effective_rule.EffectiveRule.{EffectiveRule}
+use Rattle.ics_period.specs.declared.recurrence_period.RecurrencePeriod.{RecurrencePeriod}
 use Rattle.ics_rule.specs.declared.cursor.Cursor.{Cursor}
-use Rattle.ics_rule.specs.Candidates.{is_stepped, period_in}
-use Rattle.ics_rule.specs.Kept.{count, is_chosen}
-use Rattle.ics_rule.specs.RecurrencePeriods.{first_local, IsPeriodOf}
+use Rattle.ics_period.specs.Candidates.{is_stepped, period_in}
+use Rattle.ics_period.specs.Ranks.{count, is_chosen}
+use Rattle.ics_period.specs.RecurrencePeriods.{first_local, IsPeriodOf}
 use Rattle.ics_rule.specs.Cursors.{fresh, IsCursorIn}
 use Rattle.ics_rule.specs.Inner.Searches.{is_chosen_within, IsNextWanted, IsNextOpen, after_look}
 use Rattle.ics_rule.specs.Inner.Rounds.{IsEvenRound, HasRound, IsPassedTo, CountsFrom, HasCountedTo}
 use Rattle.std.proofs.Math.Nat.{mul-le-mul_right}
-use Rattle.ics_rule.proofs.PeriodLemmas.{begun, period_mono, before_next}
-use Rattle.ics_rule.proofs.Counts.{count_most}
+use Rattle.ics_period.proofs.PeriodLemmas.{begun, period_mono, before_next}
+use Rattle.ics_period.proofs.Counts.{count_most}
 use Rattle.ics_rule.proofs.CountLemmas.{IsCountedStep, none_before_first}
 use Rattle.ics_rule.proofs.RoundLemmas.{repeats_often}
 use Rattle.ics_rule.proofs.EvenLemmas.{even_round, none_after}
 use Rattle.ics_rule.proofs.StepLemmas.{stepped_parts, none_between}
 use Rattle.ics_rule.proofs.CursorLemmas.{IsWalk, walk_ends, meets, moved_on, own_moved, looks_once}
 use Rattle.ics_rule.proofs.CountingLemmas.{IsCounting, step_first}
-use Rattle.ics_rule.specs.PeriodNumbers.{rules_end}
+use Rattle.ics_period.specs.PeriodNumbers.{rules_end}
 use Rattle.ics_fields.specs.Locals.{calendar_end}
 
 -- the period of a place is that of the last local before the next

@@ -4,20 +4,20 @@ use Rattle.std.proofs.lemmas.Bool.{and_parts, and_right, cases_lt, eqb-true}
 use Rattle.jiff_core.specs.Weekday.{monday_zero}
 use Rattle.ics_fields.specs.Ordinals.{lists_none_wide}
 use Rattle.ics_fields.specs.Sets.{IsLeastFrom}
-use Rattle.ics_rule.specs.declared.effective_rule.EffectiveRule.{EffectiveRule}
-use Rattle.ics_rule.specs.declared.recurrence_period.RecurrencePeriod.{RecurrencePeriod}
-use Rattle.ics_rule.specs.PeriodNumbers.{rules_end}
-use Rattle.ics_rule.specs.Candidates.{is_stepped, period_in}
-use Rattle.ics_rule.specs.Kept.{count, is_chosen}
-use Rattle.ics_rule.specs.RecurrencePeriods.{first_local, holds, is_taken, IsPeriodOf}
+use Rattle.ics_period.specs.declared.effective_rule.EffectiveRule.{EffectiveRule}
+use Rattle.ics_period.specs.declared.recurrence_period.RecurrencePeriod.{RecurrencePeriod}
+use Rattle.ics_period.specs.PeriodNumbers.{rules_end}
+use Rattle.ics_period.specs.Candidates.{is_stepped, period_in}
+use Rattle.ics_period.specs.Ranks.{count, is_chosen}
+use Rattle.ics_period.specs.RecurrencePeriods.{first_local, holds, is_taken, IsPeriodOf}
 use Rattle.ics_rule.specs.Cursors.{IsCounted}
 use Rattle.ics_rule.specs.Inner.Quiet.{NoneChosen}
 use Rattle.ics_rule.specs.Inner.Searches.{is_few, NoneLetIn, NoneWanted}
 use Rattle.ics_rule.proofs.ChosenLemmas.{no_step, not_let_in, taken_out, taken_within}
 use Rattle.ics_rule.proofs.CountLemmas.{not_few}
-use Rattle.ics_rule.proofs.Counts.{count-none, count-suc}
+use Rattle.ics_period.proofs.Counts.{count-none, count-suc}
 use Rattle.ics_rule.proofs.CursorLemmas.{within_facts, within_here}
-use Rattle.ics_rule.proofs.PeriodLemmas.{before_first, begun, period_mono}
+use Rattle.ics_period.proofs.PeriodLemmas.{before_first, begun, period_mono}
 
 -- two ranges, one after the other
 pub joined : (q : EffectiveRule) (start : ℕ) {a c : ℕ} (b : ℕ) → NoneChosen q start a b → NoneChosen q start b c → NoneChosen q start a c

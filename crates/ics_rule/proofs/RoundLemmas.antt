@@ -10,14 +10,14 @@ use Rattle.ics_fields.specs.declared.ordinals.Ordinals.{Ordinals}
 use Rattle.ics_fields.specs.Sets.{is_empty}
 use Rattle.ics_fields.specs.Ordinals.{lists_no_weekday}
 use Rattle.ics_fields.specs.Days.{weekday_of}
-use Rattle.ics_rule.specs.declared.effective_rule.EffectiveRule.{EffectiveRule}
-use Rattle.ics_rule.specs.PeriodNumbers.{period, day_of, hour_of, minute_of, second_of}
-use Rattle.ics_rule.specs.Candidates.{lets, lets_numbered, lets_date, lets_clock, is_stepped, period_in}
-use Rattle.ics_rule.specs.Inner.DateParts.{names_weekdays_alone}
-use Rattle.ics_rule.specs.RecurrencePeriods.{first_local}
+use Rattle.ics_period.specs.declared.effective_rule.EffectiveRule.{EffectiveRule}
+use Rattle.ics_period.specs.PeriodNumbers.{period, day_of, hour_of, minute_of, second_of}
+use Rattle.ics_period.specs.Candidates.{lets, lets_numbered, lets_date, lets_clock, is_stepped, period_in}
+use Rattle.ics_period.specs.DateParts.{names_weekdays_alone}
+use Rattle.ics_period.specs.RecurrencePeriods.{first_local}
 use Rattle.ics_rule.specs.Inner.Rounds.{seconds_of, IsRound}
-use Rattle.ics_rule.proofs.DateLemmas.{weekdays_alone}
-use Rattle.ics_rule.proofs.Tests.{positive}
+use Rattle.ics_period.proofs.DateLemmas.{weekdays_alone}
+use Rattle.ics_period.proofs.Tests.{positive}
 
 -- under the frequencies whose periods last alike a weekday with a number stands for the weekday
 numbered_alike : (f : Frequency) (q : EffectiveRule) (p : Ordinals) (d e : ℕ) → 0 < seconds_of f → lets_numbered f q p d ≡ lets_numbered f q p e

@@ -7,8 +7,8 @@ use Rattle.ics_fields.specs.RuleParts.{RuleParts}
 use Rattle.ics_fields.specs.Ordinals.{no_ordinals, no_weekdays}
 use Rattle.ics_fields.specs.Sets.{only}
 use Rattle.ics_fields.specs.Days.{days_before_year}
-use Rattle.ics_rule.specs.declared.kind.Kind.{Kind}
-use Rattle.ics_rule.specs.Recurrence.{Recurrence}
+use Rattle.ics_period.specs.declared.kind.Kind.{Kind}
+use Rattle.ics_period.specs.Recurrence.{Recurrence}
 
 -- weekdays without numbers, as a set
 abbrev pub on_weekdays : ℕ → Weekdays

@@ -1,21 +1,27 @@
 -- Of the size of a period, the number of locals that a rule allows there, depends how many are chosen.
-use Rattle.std.proofs.Common.{◌≡◌, ℕ, suc, ◌+◌, ◌*◌, ◌<◌, ◌≤◌, ◌⊎◌, inl, inr, Bool, true, false, ◌&&◌, cond, refl, sym, ap, ◌∙◌, arith}
+use Rattle.std.proofs.Common.{◌≡◌, ℕ, Bool, true, false, refl, suc, ◌+◌, ◌*◌, ◌<◌, ◌≤◌, ◌⊎◌, inl, inr, ◌&&◌, cond, sym, ap, ◌∙◌, arith}
+use Rattle.ics_period.specs.declared.effective_rule.EffectiveRule.{EffectiveRule}
+use Rattle.ics_period.specs.Ranks.{count, is_placed, is_chosen}
+use Rattle.ics_rule.specs.Inner.OpenPeriods.{chosen_of_size}
+use Rattle.ics_period.specs.RecurrencePeriods.{is_listed, first_local, is_let_in}
+use Rattle.ics_period.proofs.RankLemmas.{count-ranked, placed_of, count_flat}
 use Rattle.std.proofs.lemmas.Bool.{eq-eqb}
 use Rattle.std.proofs.lemmas.Bool.Decides.{nat_tests}
 use Rattle.jiff_core.specs.Weekday.{monday_zero}
 use Rattle.ics_fields.specs.Ordinals.{lists_none_wide}
-use Rattle.ics_rule.specs.declared.effective_rule.EffectiveRule.{EffectiveRule}
-use Rattle.ics_rule.specs.Candidates.{is_stepped, is_candidate_in, period_in}
-use Rattle.ics_rule.specs.Kept.{count, is_placed, is_chosen}
-use Rattle.ics_rule.specs.RecurrencePeriods.{first_local, is_let_in}
+use Rattle.ics_period.specs.Candidates.{is_stepped, is_candidate_in, period_in}
 use Rattle.ics_rule.specs.Inner.Rounds.{chosen_to}
-use Rattle.ics_rule.specs.Inner.OpenPeriods.{chosen_of_size}
-use Rattle.ics_rule.proofs.Counts.{count-same, count-add, count-from, count-none}
-use Rattle.ics_rule.proofs.RankLemmas.{count_flat, placed_of, size_decides}
-use Rattle.ics_rule.proofs.PeriodLemmas.{begun, begins, is_short, before_first, before_next}
+use Rattle.ics_period.proofs.Counts.{count-same, count-add, count-from, count-none}
+use Rattle.ics_period.proofs.PeriodLemmas.{begun, begins, is_short, before_first, before_next}
 use Rattle.ics_rule.proofs.ChosenLemmas.{no_step, let_in, beside_let_in, placed_is}
 use Rattle.ics_rule.proofs.FlatLemmas.{is_allowed, allowed_before}
 use Rattle.ics_fields.specs.Locals.{calendar_end}
+
+-- how many they are depends on how many pass
+pub size_decides : (q : EffectiveRule) (b : Bool) (test : ℕ → Bool) (len : ℕ)
+    → count len (placed_of q.positions b test len) ≡ chosen_of_size q b (count len test)
+size_decides q true test len = refl
+size_decides q false test len = count-ranked len test (is_listed q.positions (count len test))
 
 -- no period is longer
 abbrev pub longest : ℕ

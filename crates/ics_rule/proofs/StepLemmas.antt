@@ -4,7 +4,7 @@ use Rattle.std.proofs.lemmas.Bool.Decides.{nat_tests}
 use Rattle.std.proofs.lemmas.Nat.{div-mul-add, mod-mul-add, div-add-mod', le-div}
 use Rattle.std.proofs.Math.Nat.{mul-le-mul_right, mod-lt}
 use Rattle.ics_fields.specs.Sets.{IsLeastFrom}
-use Rattle.ics_rule.specs.Candidates.{is_stepped}
+use Rattle.ics_period.specs.Candidates.{is_stepped}
 
 pub stepped_parts : (first i p : ℕ) → is_stepped first i p ≡ true → (first ≤ p) × ((p - first) % i ≡ 0)
 stepped_parts first i p h = grind (arith, nat_tests)

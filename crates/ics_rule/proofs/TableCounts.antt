@@ -5,16 +5,16 @@ use Rattle.std.proofs.lemmas.Bool.{cases_lt, false_from_ne_true, leb-true}
 use Rattle.std.specs.Prelude.{filter}
 use Rattle.ics_fields.specs.declared.ordinals.WideOrdinals.{WideOrdinals}
 use Rattle.ics_fields.specs.Sets.{contains_wide}
-use Rattle.ics_rule.specs.Recurrence.{Recurrence}
-use Rattle.ics_rule.specs.PeriodNumbers.{day_of, month_number}
+use Rattle.ics_period.specs.Recurrence.{Recurrence}
+use Rattle.ics_period.specs.PeriodNumbers.{day_of, month_number}
 use Rattle.ics_fields.specs.Locals.{number, calendar_end}
-use Rattle.ics_rule.specs.Kept.{count}
-use Rattle.ics_rule.specs.RecurrencePeriods.{month_start}
+use Rattle.ics_period.specs.Ranks.{count}
+use Rattle.ics_period.specs.RecurrencePeriods.{month_start}
 use Rattle.ics_rule.specs.Table.{BySetPos}
 use Rattle.ics_rule.specs.ByTable.{is_absent, is_instance, is_nth, is_period, period_of, is_member}
-use Rattle.ics_rule.proofs.Counts.{count-suc, count-none}
-use Rattle.ics_rule.proofs.RankLemmas.{count_flat}
-use Rattle.ics_rule.proofs.PeriodLemmas.{month_begun, month_begins}
+use Rattle.ics_period.proofs.Counts.{count-suc, count-none}
+use Rattle.ics_period.proofs.RankLemmas.{count_flat}
+use Rattle.ics_period.proofs.PeriodLemmas.{month_begun, month_begins}
 
 -- so many days from one on
 abbrev pub days_from : ℕ → ℕ → List ℕ

@@ -9,13 +9,13 @@ use Rattle.ics_fields.specs.RuleParts.{RuleParts, every}
 use Rattle.ics_fields.specs.Ordinals.{no_ordinals, no_wide_ordinals, with_wide_ordinal}
 use Rattle.ics_fields.specs.declared.ordinals.Side.TheVariants.{Front, Back}
 use Rattle.ics_fields.specs.Sets.{only}
-use Rattle.ics_rule.specs.declared.kind.Kind.TheVariants.{DateTime}
-use Rattle.ics_rule.specs.Recurrence.{Recurrence}
-use Rattle.ics_rule.specs.PeriodNumbers.{day_of, hour_of, minute_of, second_of, month_number}
-use Rattle.ics_rule.specs.Kept.{count}
+use Rattle.ics_period.specs.declared.kind.Kind.TheVariants.{DateTime}
+use Rattle.ics_period.specs.Recurrence.{Recurrence}
+use Rattle.ics_period.specs.PeriodNumbers.{day_of, hour_of, minute_of, second_of, month_number}
+use Rattle.ics_period.specs.Ranks.{count}
 use Rattle.ics_rule.specs.Table.{Part, ByDay, Nothing, cell}
 use Rattle.ics_rule.specs.ByTable.{is_absent, is_member, IsAllowed}
-use Rattle.ics_rule.proofs.KeptLemmas.{and_true}
+use Rattle.ics_period.proofs.Tests.{and_true}
 use Rattle.ics_rule.proofs.TableCounts.{days_from, members_by_days}
 use Rattle.ics_rule.proofs.Samples.{on_weekdays, nth_weekday, date, local, rule, mo, tu, fr}
 

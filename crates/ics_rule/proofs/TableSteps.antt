@@ -12,19 +12,19 @@ use Rattle.ics_fields.specs.declared.ordinals.Weekdays.{Weekdays}
 use Rattle.ics_fields.specs.Days.{day_index, weekday_of}
 use Rattle.ics_fields.specs.Sets.{is_empty, contains, only}
 use Rattle.ics_fields.specs.Ordinals.{no_ordinals, no_weekdays, numbers_of, lists_none, lists_no_weekday}
-use Rattle.ics_rule.specs.declared.kind.Kind.{Kind}
-use Rattle.ics_rule.specs.declared.kind.Kind.TheVariants.{Date, DateTime}
-use Rattle.ics_rule.specs.Recurrence.{Recurrence}
-use Rattle.ics_rule.specs.PeriodNumbers.{day_of}
-use Rattle.ics_rule.specs.declared.effective_rule.EffectiveRule.{EffectiveRule}
-use Rattle.ics_rule.specs.EffectiveRules.{takes_month_day, takes_month, takes_weekday, skips_hours, skips_minutes, skips_seconds, clock_part, effective}
-use Rattle.ics_rule.specs.EffectiveRules.{only_place, only_weekday}
-use Rattle.ics_rule.specs.Candidates.{lets, lets_place, lists, lets_numbered, lets_weekday}
+use Rattle.ics_period.specs.declared.kind.Kind.{Kind}
+use Rattle.ics_period.specs.declared.kind.Kind.TheVariants.{Date, DateTime}
+use Rattle.ics_period.specs.Recurrence.{Recurrence}
+use Rattle.ics_period.specs.PeriodNumbers.{day_of}
+use Rattle.ics_period.specs.declared.effective_rule.EffectiveRule.{EffectiveRule}
+use Rattle.ics_period.specs.EffectiveRules.{takes_month_day, takes_month, takes_weekday, skips_hours, skips_minutes, skips_seconds, clock_part, effective}
+use Rattle.ics_period.specs.EffectiveRules.{only_place, only_weekday}
+use Rattle.ics_period.specs.Candidates.{lets, lets_place, lists, lets_numbered, lets_weekday}
 use Rattle.ics_rule.specs.Table.{ByMonth, ByWeekNo, ByMonthDay, ByDay, ByHour, ByMinute, BySecond}
 use Rattle.ics_rule.specs.ByTable.{instance_of, start_of, is_absent, is_listed, is_clockless, weekday_unit, lists_nth_in}
 use Rattle.ics_rule.specs.PlainReading.{applies, is_extracted}
-use Rattle.ics_rule.proofs.DateLemmas.{none_numbered}
-use Rattle.ics_rule.proofs.ScanLemmas.{contains-only}
+use Rattle.ics_period.proofs.DateLemmas.{none_numbered}
+use Rattle.ics_period.proofs.ScanLemmas.{contains-only}
 
 none_only : (s : ℕ) → is_empty (only s) ≡ false
 none_only s = grind (arith, nat_tests, pow_pos)

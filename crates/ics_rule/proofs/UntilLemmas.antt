@@ -4,13 +4,14 @@ use Rattle.std.proofs.lemmas.Bool.Decides.{nat_tests}
 use Rattle.ics_fields.specs.declared.frequency.Frequency.{Frequency}
 use Rattle.ics_fields.specs.declared.until.Until.{Until}
 use Rattle.ics_fields.specs.Locals.{number}
-use Rattle.ics_rule.specs.declared.kind.Kind.{Kind}
-use Rattle.ics_rule.specs.Recurrence.{Recurrence}
-use Rattle.ics_rule.specs.PeriodNumbers.{rules_end}
-use Rattle.ics_rule.specs.EffectiveRules.{takes_month, takes_month_day, takes_weekday, effective}
-use Rattle.ics_rule.specs.Kept.{is_chosen, is_in_rule, is_by_until, is_counted, is_kept, until_moment}
+use Rattle.ics_period.specs.declared.kind.Kind.{Kind}
+use Rattle.ics_period.specs.Recurrence.{Recurrence}
+use Rattle.ics_period.specs.PeriodNumbers.{rules_end}
+use Rattle.ics_period.specs.EffectiveRules.{takes_month, takes_month_day, takes_weekday, effective}
+use Rattle.ics_period.specs.Ranks.{is_chosen}
+use Rattle.ics_rule.specs.Kept.{is_in_rule, is_by_until, is_counted, is_kept, until_moment}
 use Rattle.ics_rule.specs.UntilBounds.{last_local, is_up_to, is_bounded, without_until}
-use Rattle.ics_rule.proofs.Counts.{count-same}
+use Rattle.ics_period.proofs.Counts.{count-same}
 
 -- a date is compared as the last local of its day is
 by_date : (n day : ℕ) → nat_le (n / 86_400) day ≡ nat_le n (day * 86_400 + 86_399)

@@ -10,14 +10,14 @@ use Rattle.ics_fields.specs.Days.{year_of, year_day_of, month_of, month_day_of, 
 use Rattle.ics_fields.specs.Sets.{is_empty, contains, contains_wide}
 use Rattle.ics_fields.specs.Ordinals.{lists_none, lists_none_wide, lists_no_weekday, numbers_of}
 use Rattle.ics_fields.specs.RuleParts.{RuleParts}
-use Rattle.ics_rule.specs.declared.kind.Kind.{Kind}
-use Rattle.ics_rule.specs.declared.kind.Kind.TheVariants.{Date, DateTime}
-use Rattle.ics_rule.specs.Recurrence.{Recurrence}
-use Rattle.ics_rule.specs.PeriodNumbers.{day_of, hour_of, minute_of, second_of, period, rules_end}
+use Rattle.ics_period.specs.declared.kind.Kind.{Kind}
+use Rattle.ics_period.specs.declared.kind.Kind.TheVariants.{Date, DateTime}
+use Rattle.ics_period.specs.Recurrence.{Recurrence}
+use Rattle.ics_period.specs.PeriodNumbers.{day_of, hour_of, minute_of, second_of, period, rules_end}
 use Rattle.ics_fields.specs.Locals.{number, calendar_end}
-use Rattle.ics_rule.specs.EffectiveRules.{skips_hours}
-use Rattle.ics_rule.specs.Candidates.{lists, lists_wide, lists_nth, fourth_day, week_number, weeks_of_year, is_stepped}
-use Rattle.ics_rule.specs.Kept.{count}
+use Rattle.ics_period.specs.EffectiveRules.{skips_hours}
+use Rattle.ics_period.specs.Candidates.{lists, lists_wide, lists_nth, fourth_day, week_number, weeks_of_year, is_stepped}
+use Rattle.ics_period.specs.Ranks.{count}
 use Rattle.ics_rule.specs.UntilBounds.{is_bounded}
 use Rattle.ics_rule.specs.Table.{Part, ByMonth, ByWeekNo, ByYearDay, ByMonthDay, ByDay, ByHour, ByMinute, BySecond, BySetPos, Cell, Nothing, Limit, Expand}
 use Rattle.ics_rule.specs.Table.{Note1, Note2, cell}

@@ -3,7 +3,7 @@ use Rattle.std.specs.Prelude.{◌≡◌, ℕ, ◌+◌, ◌≤◌, max, List, [],
 use Rattle.std.specs.Option.{option_map}
 use Rattle.ics_fields.specs.declared.local.Local.{Local}
 use Rattle.ics_rule.specs.declared.cursor.Cursor.{Cursor}
-use Rattle.ics_rule.specs.Recurrence.{Recurrence}
+use Rattle.ics_period.specs.Recurrence.{Recurrence}
 use Rattle.ics_fields.specs.Locals.{number}
 use Rattle.ics_rule.specs.Next.{IsNextKept, NoneKept}
 use Rattle.ics_rule.specs.Cursors.{known_to, looks_from, period_count, place_of, steps_of, HasLooked, IsCursorOf}

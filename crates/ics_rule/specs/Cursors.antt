@@ -2,15 +2,15 @@
 use Rattle.std.specs.Prelude.{◌≡◌, ℕ, suc, ◌+◌, ◌<◌, ◌≤◌, Bool, ◌&&◌, ◌==◌, nat_le, nat_lt, Option, Some, None, MatchOption, true}
 use Rattle.jiff_core.specs.Weekday.{monday_zero}
 use Rattle.ics_fields.specs.declared.local.Local.{Local}
-use Rattle.ics_rule.specs.declared.effective_rule.EffectiveRule.{EffectiveRule}
-use Rattle.ics_rule.specs.declared.recurrence_period.RecurrencePeriod.{RecurrencePeriod}
+use Rattle.ics_period.specs.declared.effective_rule.EffectiveRule.{EffectiveRule}
+use Rattle.ics_period.specs.declared.recurrence_period.RecurrencePeriod.{RecurrencePeriod}
 use Rattle.ics_rule.specs.declared.cursor.Cursor.{Cursor}
-use Rattle.ics_rule.specs.Recurrence.{Recurrence}
+use Rattle.ics_period.specs.Recurrence.{Recurrence}
 use Rattle.ics_fields.specs.Locals.{number, calendar_end}
-use Rattle.ics_rule.specs.EffectiveRules.{effective}
-use Rattle.ics_rule.specs.Candidates.{is_stepped, period_in}
-use Rattle.ics_rule.specs.Kept.{count, is_chosen}
-use Rattle.ics_rule.specs.RecurrencePeriods.{first_local, IsPeriodOf}
+use Rattle.ics_period.specs.EffectiveRules.{effective}
+use Rattle.ics_period.specs.Candidates.{is_stepped, period_in}
+use Rattle.ics_period.specs.Ranks.{count, is_chosen}
+use Rattle.ics_period.specs.RecurrencePeriods.{first_local, IsPeriodOf}
 
 -- a period is a multiple of the interval after the start's, and has a local from a on and earlier than b
 abbrev pub is_met : EffectiveRule → ℕ → ℕ → ℕ → ℕ → Bool

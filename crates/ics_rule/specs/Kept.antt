@@ -1,44 +1,17 @@
 -- Which locals a rule keeps (RFC 5545, 3.3.10).
-use Rattle.std.specs.Prelude.{◌≡◌, ℕ, zero, suc, ◌+◌, ◌/◌, Bool, true, false, ◌&&◌, ◌||◌, ◌==◌, nat_le, nat_lt, if◌then◌else◌, Option, Some, None, ℤ}
+use Rattle.std.specs.Prelude.{◌≡◌, ℕ, ◌/◌, Bool, true, ◌&&◌, ◌||◌, ◌==◌, nat_le, nat_lt, Option, Some, None, ℤ}
 use Rattle.ics_fields.specs.declared.until.Until.{Until}
 use Rattle.ics_fields.specs.declared.until.Until.TheVariants as until
 use Rattle.ics_fields.specs.Days.{day_index}
-use Rattle.ics_fields.specs.Ordinals.{lists_none_wide}
 use Rattle.ics_fields.specs.Sets.{contains}
-use Rattle.ics_rule.specs.declared.kind.Kind.{Kind}
-use Rattle.ics_rule.specs.declared.kind.Kind.TheVariants.{Date, DateTime}
-use Rattle.ics_rule.specs.declared.effective_rule.EffectiveRule.{EffectiveRule}
+use Rattle.ics_period.specs.declared.kind.Kind.{Kind}
+use Rattle.ics_period.specs.declared.kind.Kind.TheVariants.{Date, DateTime}
 use Rattle.ics_rule.specs.declared.hour.HourTimes.{HourTimes}
-use Rattle.ics_rule.specs.Recurrence.{Recurrence}
-use Rattle.ics_rule.specs.PeriodNumbers.{day_of, minute_of, second_of, rules_end}
-use Rattle.ics_fields.specs.Locals.{number, local_seconds, calendar_end}
-use Rattle.ics_rule.specs.EffectiveRules.{effective}
-use Rattle.ics_rule.specs.Candidates.{is_candidate_in, lists_wide, period_in}
-
--- how many numbers below n pass the test
-unfoldable pub count : ℕ → (ℕ → Bool) → ℕ
-count zero test = 0
-count (suc n) test = count n test + (if test n then 1 else 0)
-
--- a candidate m in the period of n
-abbrev pub is_beside : EffectiveRule → ℕ → ℕ → ℕ → Bool
-is_beside q start n m = is_candidate_in q start m && period_in q m == period_in q n
-
--- how many candidates of the period of n are not later than n, and how many the period has; those before the start count too
-abbrev pub rank : EffectiveRule → ℕ → ℕ → ℕ
-rank q start n = count (suc n) (is_beside q start n)
-
-abbrev pub size : EffectiveRule → ℕ → ℕ → ℕ
-size q start n = count calendar_end (is_beside q start n)
-
--- n is at one of the places that BYSETPOS lists, from the start or from the end of its period, or BYSETPOS is absent
-abbrev pub is_placed : EffectiveRule → ℕ → Bool → ℕ → Bool
-is_placed q start true n = true
-is_placed q start false n = lists_wide q.positions (rank q start n) (size q start n)
-
--- a candidate that BYSETPOS allows
-abbrev pub is_chosen : EffectiveRule → ℕ → ℕ → Bool
-is_chosen q start n = is_candidate_in q start n && is_placed q start (lists_none_wide q.positions) n
+use Rattle.ics_period.specs.Recurrence.{Recurrence}
+use Rattle.ics_period.specs.PeriodNumbers.{day_of, minute_of, second_of, rules_end}
+use Rattle.ics_fields.specs.Locals.{number, local_seconds}
+use Rattle.ics_period.specs.EffectiveRules.{effective}
+use Rattle.ics_period.specs.Ranks.{count, is_chosen}
 
 -- the start is in the rule, whether or not it fits (our choice), and so is each later candidate that BYSETPOS allows
 unfoldable pub is_in_rule : Recurrence → ℕ → Bool

@@ -1,6 +1,6 @@
 -- The next kept local.
 use Rattle.std.specs.Prelude.{◌≡◌, ℕ, ◌<◌, ◌≤◌, true, false}
-use Rattle.ics_rule.specs.Recurrence.{Recurrence}
+use Rattle.ics_period.specs.Recurrence.{Recurrence}
 use Rattle.ics_rule.specs.Kept.{is_kept}
 
 -- no local from a place on and before a bound is kept

@@ -9,12 +9,12 @@ use Rattle.ics_fields.specs.declared.ordinals.WideOrdinals.{WideOrdinals}
 use Rattle.ics_fields.specs.Sets.{contains, contains_wide}
 use Rattle.ics_fields.specs.Ordinals.{lists_none, numbers_of}
 use Rattle.ics_fields.specs.Days.{year_of, month_of, month_day_of, weekday_of}
-use Rattle.ics_rule.specs.declared.kind.Kind.TheVariants.{Date}
-use Rattle.ics_rule.specs.Recurrence.{Recurrence}
-use Rattle.ics_rule.specs.PeriodNumbers.{day_of, hour_of, minute_of, second_of, period}
+use Rattle.ics_period.specs.declared.kind.Kind.TheVariants.{Date}
+use Rattle.ics_period.specs.Recurrence.{Recurrence}
+use Rattle.ics_period.specs.PeriodNumbers.{day_of, hour_of, minute_of, second_of, period}
 use Rattle.ics_fields.specs.Locals.{number, calendar_end}
-use Rattle.ics_rule.specs.EffectiveRules.{skips_hours, skips_minutes, skips_seconds}
-use Rattle.ics_rule.specs.Kept.{count}
+use Rattle.ics_period.specs.EffectiveRules.{skips_hours, skips_minutes, skips_seconds}
+use Rattle.ics_period.specs.Ranks.{count}
 use Rattle.ics_rule.specs.UntilBounds.{is_bounded}
 use Rattle.ics_rule.specs.Table.{Part, ByMonth, ByWeekNo, ByYearDay, ByMonthDay, ByDay, ByHour, ByMinute, BySecond, BySetPos}
 use Rattle.ics_rule.specs.ByTable.{is_absent, weekday_unit}

@@ -5,9 +5,9 @@ use Rattle.ics_fields.specs.declared.until.Until.{Until}
 use Rattle.ics_fields.specs.declared.until.Until.TheVariants as until
 use Rattle.ics_fields.specs.Days.{day_index}
 use Rattle.ics_fields.specs.Locals.{number}
-use Rattle.ics_rule.specs.declared.kind.Kind.{Kind}
-use Rattle.ics_rule.specs.declared.kind.Kind.TheVariants.{Date, DateTime}
-use Rattle.ics_rule.specs.Recurrence.{Recurrence}
+use Rattle.ics_period.specs.declared.kind.Kind.{Kind}
+use Rattle.ics_period.specs.declared.kind.Kind.TheVariants.{Date, DateTime}
+use Rattle.ics_period.specs.Recurrence.{Recurrence}
 
 abbrev pub last_of_day : ℤ → ℕ
 last_of_day day = day_index day * 86_400 + 86_399

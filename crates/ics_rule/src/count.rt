@@ -1,19 +1,18 @@
 //! How a cursor counts the periods of a rule with COUNT, from the start on.
 ghost use Rattle.std.specs.Prelude.{◌≡◌, ◌<◌, ◌≤◌, ◌+◌, ◌^◌, MatchOption, Some, true, false};
 ghost use Rattle.jiff_core.specs.Weekday.{monday_zero};
-ghost use Rattle.ics_rule.specs.Candidates.{is_stepped, period_in};
-ghost use Rattle.ics_rule.specs.RecurrencePeriods.{first_local};
+ghost use Rattle.ics_period.specs.Candidates.{is_stepped, period_in};
+ghost use Rattle.ics_period.specs.RecurrencePeriods.{first_local};
 ghost use Rattle.ics_rule.specs.Inner.Searches.{IsNextWanted, IsWalked, LooksAt, IsTurnOf, AllCounted, IsTurned, IsUnderCount};
 ghost use Rattle.ics_rule.specs.Inner.Rounds.{IsPassedTo, CountsFrom, HasCountedTo};
-ghost use Rattle.ics_rule.specs.PeriodNumbers.{rules_end};
+ghost use Rattle.ics_period.specs.PeriodNumbers.{rules_end};
 
 use crate::cursor::Cursor;
 use crate::never::chooses_none;
 use crate::pass::next_open_step;
-use crate::recurrence_period::RecurrencePeriod;
 use crate::search::Search;
-use crate::step::period_of;
 use crate::walk::is_vain;
+use ics_period::{RecurrencePeriod, period_of};
 
 /// 10000-01-01T00:00:00, the end of the calendar.
 const CALENDAR_END: u64 = 315_569_520_000;

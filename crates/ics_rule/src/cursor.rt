@@ -1,18 +1,16 @@
 //! A search for the locals that a rule keeps, from a place on.
-ghost use Rattle.std.specs.Prelude.{◌≡◌, ℕ, ◌<◌, ◌≤◌, ◌+◌, ◌*◌, ◌^◌, max, Some, MatchOption, IfSome, nat_lt};
+ghost use Rattle.std.specs.Prelude.{◌≡◌, ℕ, ◌<◌, ◌≤◌, ◌+◌, ◌*◌, max, Some, MatchOption, IfSome, nat_lt};
 ghost use Rattle.ics_fields.specs.Days.{IsDayNumber, day_index};
 ghost use Rattle.ics_fields.specs.RuleParts.{IsUntil};
 ghost use Rattle.ics_rule.specs.Kept.{is_by_until};
-ghost use Rattle.ics_rule.specs.PeriodNumbers.{rules_end};
+ghost use Rattle.ics_period.specs.PeriodNumbers.{rules_end};
 ghost use Rattle.ics_fields.specs.Locals.{calendar_end};
 
-use crate::kind::Kind;
 use crate::never::chooses_none;
-use crate::recurrence_period::RecurrencePeriod;
 use crate::rule::Rule;
 use crate::search::Search;
-use crate::step::period_of;
 use ics_fields::{Local, Until};
+use ics_period::{Kind, RecurrencePeriod, period_of};
 
 /// 9801-01-01T00:00:00, the end of the rules.
 pub(crate) const RULES_END: u64 = 309_289_708_800;
@@ -60,9 +58,9 @@ pub struct Cursor {
 impl Cursor {
     ghost use Rattle.ics_fields.specs.Sets.{IsLeastFrom};
     ghost use Rattle.ics_fields.specs.Locals.{number};
-    ghost use Rattle.ics_rule.specs.Recurrence.{Recurrence};
-    ghost use Rattle.ics_rule.specs.EffectiveRules.{effective};
-    ghost use Rattle.ics_rule.specs.Candidates.{period_in};
+    ghost use Rattle.ics_period.specs.Recurrence.{Recurrence};
+    ghost use Rattle.ics_period.specs.EffectiveRules.{effective};
+    ghost use Rattle.ics_period.specs.Candidates.{period_in};
     ghost use Rattle.ics_rule.specs.Next.{IsNextKept, NoneKept};
     ghost use Rattle.ics_rule.specs.Calls.{IsAnswer, LooksUpTo};
     ghost use Rattle.ics_rule.specs.Cursors.{known_to, period_count, place_of, steps_of, looks_from, IsCursorOf, HasCounted, HasLooked, IsCursorIn};

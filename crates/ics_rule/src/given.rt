@@ -1,11 +1,11 @@
 //! What a rule was given, where the parts that it searches by do not tell it.
 ghost use Rattle.std.specs.Prelude.{◌≡◌, ◌≤◌, ℕ, MatchOption};
 ghost use Rattle.ics_fields.specs.RuleParts.{IsUntil};
-ghost use Rattle.ics_rule.specs.EffectiveRules.{effective_at};
-ghost use Rattle.ics_rule.specs.declared.kind.Kind.{Kind};
+ghost use Rattle.ics_period.specs.EffectiveRules.{effective_at};
+ghost use Rattle.ics_period.specs.declared.kind.Kind.{Kind};
 
-use crate::effective::{takes_month, takes_month_day, takes_weekday};
 use ics_fields::{BitSet, Parts, Until};
+use ics_period::{takes_month, takes_month_day, takes_weekday};
 
 /// COUNT, UNTIL, the parts of the time as they were given, and which parts of the date were absent and are taken from the start of the event. The
 /// parts that a rule searches by tell the rest.

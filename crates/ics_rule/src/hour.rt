@@ -5,13 +5,12 @@ ghost use Rattle.ics_fields.specs.Locals.{number, calendar_end};
 ghost use Rattle.ics_rule.specs.Next.{NoneKept, IsNextKept};
 ghost use Rattle.ics_rule.specs.Kept.{KeepsTimes};
 ghost use Rattle.ics_rule.specs.Inner.HoursKept.{IsFirstTime, IsLastTime, KeepsEnds};
-ghost use Rattle.ics_rule.specs.PeriodNumbers.{rules_end};
+ghost use Rattle.ics_period.specs.PeriodNumbers.{rules_end};
 
 use crate::cursor::Cursor;
-use crate::effective::skips_hours;
 use crate::rule::Rule;
-use crate::time::lets;
 use ics_fields::{BitSet, Local};
+use ics_period::{lets, skips_hours};
 
 /// Each of some minutes of an hour, with each of some seconds.
 #[derive(Clone, Copy)]

@@ -1,17 +1,15 @@
 //! Rules that choose nothing.
 ghost use Rattle.std.specs.Prelude.{◌≡◌, ℕ, ◌<◌, ◌≤◌, true, false};
 ghost use Rattle.ics_fields.specs.Sets.{contains_wide};
-ghost use Rattle.ics_rule.specs.Kept.{count, is_chosen};
-ghost use Rattle.ics_rule.specs.Candidates.{lets};
+ghost use Rattle.ics_period.specs.Ranks.{count, is_chosen};
+ghost use Rattle.ics_period.specs.Candidates.{lets};
 ghost use Rattle.ics_rule.specs.Inner.Rounds.{seconds_of};
 ghost use Rattle.ics_rule.specs.Inner.OpenPeriods.{size_of_open};
 ghost use Rattle.ics_fields.specs.Locals.{calendar_end};
 
-use crate::effective_rule::EffectiveRule;
-use crate::members::members_below;
-use crate::recurrence_period::clock_set;
 use crate::rounds::seconds_of;
 use ics_fields::{BitSet, Frequency, WideBitSet};
+use ics_period::{EffectiveRule, clock_set, members_below};
 
 /// How many values of one unit of the clock a part allows.
 fn readings(part: BitSet, size: u8) -> u64

@@ -1,27 +1,23 @@
 //! How many periods of a day or less a rule allows, counted by whole days.
 ghost use Rattle.std.specs.Prelude.{◌≡◌, ℕ, true, false, ◌<◌, ◌≤◌, ◌+◌, ◌-◌, ◌*◌, ◌/◌, ◌^◌, ◌&&◌, Some};
-ghost use Rattle.ics_rule.specs.Candidates.{is_stepped, lets_date, period_in};
-ghost use Rattle.ics_rule.specs.Kept.{count, is_chosen};
+ghost use Rattle.ics_period.specs.Candidates.{is_stepped, lets_date};
+ghost use Rattle.ics_period.specs.Ranks.{count, is_chosen};
 ghost use Rattle.ics_rule.specs.Inner.Searches.{IsUnderCount};
 ghost use Rattle.ics_rule.specs.Inner.Rounds.{seconds_of, IsPassedTo};
 ghost use Rattle.ics_rule.specs.Inner.OpenPeriods.{per_day, lets_own, is_timely, is_open_period, chosen_in_open};
 ghost use Rattle.ics_fields.specs.Days.{days_before_year};
 ghost use Rattle.ics_fields.specs.Locals.{calendar_end};
-ghost use Rattle.ics_rule.specs.PeriodNumbers.{rules_end};
 
 use crate::cursor::Cursor;
-use crate::date::lets_date;
-use crate::effective::{skips_hours, skips_minutes, skips_seconds};
-use crate::effective_rule::EffectiveRule;
-use crate::near_days::{NearDays, lists_days};
 use crate::never::size_of_open;
 use crate::pass::days_of_closed_month;
-use crate::recurrence_period::ranks::listed_below;
 use crate::rounds::{calendar_round, seconds_of};
 use crate::search::Search;
-use crate::step::period_of;
-use crate::time::lets;
 use crate::walk::next_step;
+use ics_period::{
+    EffectiveRule, NearDays, lets, lets_date, listed_below, lists_days, period_of, skips_hours,
+    skips_minutes, skips_seconds,
+};
 
 /// Steps are counted up to a period before this one.
 const LAST_COUNTED: u64 = 1 << 40;

@@ -1,19 +1,17 @@
 //! Skipping the periods in which a rule allows nothing.
 ghost use Rattle.std.specs.Prelude.{◌≡◌, ℕ, ◌<◌, ◌≤◌, ◌+◌, ◌-◌, ◌*◌, ◌/◌, ◌^◌, false, true};
-ghost use Rattle.ics_rule.specs.Candidates.{is_stepped, lets_date, lets_clock, period_in};
+ghost use Rattle.ics_period.specs.Candidates.{is_stepped, lets_date, lets_clock, period_in};
 ghost use Rattle.ics_rule.specs.Inner.Searches.{NoneLetIn, IsNextOpen};
-ghost use Rattle.ics_rule.specs.PeriodNumbers.{day_before, rules_end};
+ghost use Rattle.ics_period.specs.PeriodNumbers.{day_before, rules_end};
 ghost use Rattle.ics_fields.specs.Locals.{calendar_end};
 
-use crate::date::{civil_at, lets_date, month_length};
-use crate::effective::skips_hours;
-use crate::effective_rule::EffectiveRule;
-use crate::recurrence_period::{RecurrencePeriod, clock_set, first_local, next_second};
 use crate::search::Search;
-use crate::step::period_of;
-use crate::time::lets;
 use crate::walk::next_step;
 use ics_fields::Frequency;
+use ics_period::{
+    EffectiveRule, RecurrencePeriod, civil_at, clock_set, first_local, lets, lets_date,
+    month_length, next_second, period_of, skips_hours,
+};
 
 /// How many days from one on are in a month that BYMONTH does not allow.
 pub(crate) fn days_of_closed_month(parts: &EffectiveRule, day: u32) -> u32

@@ -1,7 +1,7 @@
 //! The plain reading of a rule.
 ghost use Rattle.std.specs.Prelude.{◌≡◌, ℕ, ◌<◌};
-ghost use Rattle.ics_rule.specs.Recurrence.{Recurrence};
-ghost use Rattle.ics_rule.specs.PeriodNumbers.{rules_end};
+ghost use Rattle.ics_period.specs.Recurrence.{Recurrence};
+ghost use Rattle.ics_period.specs.PeriodNumbers.{rules_end};
 ghost use Rattle.ics_rule.specs.Kept.{is_kept};
 ghost use Rattle.ics_rule.specs.PlainReading.{HasPlainReading, is_plainly_kept};
 

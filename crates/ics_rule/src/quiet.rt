@@ -4,15 +4,13 @@ ghost use Rattle.ics_fields.specs.Locals.{calendar_end};
 ghost use Rattle.ics_rule.specs.Cursors.{HeldBy, IsCursorIn};
 ghost use Rattle.ics_rule.specs.Inner.Quiet.{NoneChosen};
 ghost use Rattle.ics_rule.specs.Inner.Searches.{NoneWanted};
-ghost use Rattle.ics_rule.specs.PeriodNumbers.{rules_end};
+ghost use Rattle.ics_period.specs.PeriodNumbers.{rules_end};
 
 use crate::cursor::{Cursor, RULES_END};
-use crate::effective_rule::EffectiveRule;
 use crate::pass::next_open;
-use crate::recurrence_period::first_local;
 use crate::search::Search;
-use crate::step::period_of;
 use crate::walk::next_step;
+use ics_period::{EffectiveRule, first_local, period_of};
 
 /// A local before which a rule chooses none from another on, by the parts of the date alone: the first that it may allow, or the first of the
 /// next step.

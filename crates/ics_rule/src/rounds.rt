@@ -1,17 +1,15 @@
 //! Counting whole rounds of periods at once. After a round, what a rule chooses repeats.
 ghost use Rattle.std.specs.Prelude.{◌≡◌, ℕ, ◌<◌, ◌≤◌, ◌+◌, ◌*◌, ◌%◌, ◌^◌, ◌&&◌, IfSome, MatchOption, Some, true};
-ghost use Rattle.ics_rule.specs.PeriodNumbers.{day_of, rules_end};
-ghost use Rattle.ics_rule.specs.Candidates.{lets_date, lets_clock, period_in};
+ghost use Rattle.ics_period.specs.PeriodNumbers.{day_of};
+ghost use Rattle.ics_period.specs.Candidates.{lets_date, lets_clock};
 ghost use Rattle.ics_rule.specs.Inner.Searches.{IsUnderCount};
-ghost use Rattle.ics_rule.specs.Inner.DateParts.{names_weekdays_alone};
+ghost use Rattle.ics_period.specs.DateParts.{names_weekdays_alone};
 ghost use Rattle.ics_rule.specs.Inner.Rounds.{seconds_of, calendar_periods, IsCalendarRound, IsRound, IsFlat, IsEvenRound, HasRound, IsPassedTo};
 
 use crate::cursor::Cursor;
-use crate::date::{goes_by_months, names_weekdays_alone};
-use crate::effective_rule::EffectiveRule;
 use crate::search::Search;
-use crate::step::period_of;
 use ics_fields::Frequency;
+use ics_period::{EffectiveRule, goes_by_months, names_weekdays_alone, period_of};
 
 /// Up to this many periods, a search does not ask first whether its rule repeats.
 const A_SHORT_SEARCH: u64 = 86_400;

@@ -2,14 +2,9 @@
 ghost use Rattle.std.specs.Prelude.{◌≡◌, ◌<◌};
 ghost use Rattle.ics_fields.specs.Days.{IsDayNumber};
 
-use crate::date::lets_date;
-use crate::effective::fill;
-use crate::effective_rule::EffectiveRule;
 use crate::given::Given;
-use crate::kind::Kind;
-use crate::step::in_step;
-use crate::time::lets_clock;
 use ics_fields::{Local, Moment, Parts, Until};
+use ics_period::{EffectiveRule, Kind, fill, in_step, lets_clock, lets_date};
 use std::marker::Model;
 
 /// A recurrence rule, with the start and the kind of its event (RFC 5545, 3.3.10). What the rule leaves out is taken from the start.
@@ -22,7 +17,7 @@ pub struct Rule {
 }
 
 impl Model for Rule {
-    ghost use Rattle.ics_rule.specs.Recurrence.{Recurrence};
+    ghost use Rattle.ics_period.specs.Recurrence.{Recurrence};
 
     ghost Value = { Recurrence };
 
@@ -30,7 +25,7 @@ impl Model for Rule {
     ghost use Rattle.std.proofs.Common.{sym};
     ghost use Rattle.ics_fields.specs.Days.{IsDayNumber};
     ghost use Rattle.ics_fields.specs.RuleParts.{IsUntil};
-    ghost use Rattle.ics_rule.specs.EffectiveRules.{effective};
+    ghost use Rattle.ics_period.specs.EffectiveRules.{effective};
     ghost use Rattle.ics_rule.specs.Inner.Given.{given_of, parts_of};
 
     ghost view = { λ r. record { parts = parts_of r.whole r.given; start = r.start; kind = r.kind } };
@@ -46,7 +41,7 @@ impl Model for Rule {
 
 impl Rule {
     ghost use Rattle.ics_fields.specs.Locals.{number, year_number};
-    ghost use Rattle.ics_rule.specs.Candidates.{is_candidate};
+    ghost use Rattle.ics_period.specs.Candidates.{is_candidate};
     ghost use Rattle.ics_rule.specs.Kept.{until_moment};
 
     /// The rule of an event that starts at a local of the years 0000 to 9999. What the rule leaves out is taken from the start

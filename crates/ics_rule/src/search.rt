@@ -1,9 +1,9 @@
 //! A search of a rule.
 ghost use Rattle.std.specs.Prelude.{◌≡◌, ◌<◌, ◌≤◌, ◌^◌};
 ghost use Rattle.ics_fields.specs.Locals.{calendar_end};
-ghost use Rattle.ics_rule.specs.Candidates.{period_in};
+ghost use Rattle.ics_period.specs.Candidates.{period_in};
 
-use crate::effective_rule::EffectiveRule;
+use ics_period::EffectiveRule;
 
 /// What a search goes by: the parts of a rule, its start, and the period of the start, from which INTERVAL counts.
 #[derive(Clone, Copy)]

@@ -1,7 +1,7 @@
 //! The table of expansion and limits.
 ghost use Rattle.std.specs.Prelude.{◌≡◌, ℕ, ◌&&◌};
-ghost use Rattle.ics_rule.specs.Recurrence.{Recurrence};
-ghost use Rattle.ics_rule.specs.Candidates.{is_candidate};
+ghost use Rattle.ics_period.specs.Recurrence.{Recurrence};
+ghost use Rattle.ics_period.specs.Candidates.{is_candidate};
 ghost use Rattle.ics_rule.specs.Kept.{is_in_rule, is_kept};
 ghost use Rattle.ics_rule.specs.ByTable.{IsAllowed, is_period, period_of, is_instance, is_member, is_kept_by_table};
 

@@ -2,23 +2,21 @@
 ghost use Rattle.std.specs.Prelude.{◌≡◌, ℕ, true, false, ◌<◌, ◌≤◌, ◌+◌, ◌*◌, ◌/◌, ◌^◌, MatchOption, Some, None};
 ghost use Rattle.jiff_core.specs.Weekday.{monday_zero};
 ghost use Rattle.ics_fields.specs.Sets.{IsLeastFrom};
-ghost use Rattle.ics_rule.specs.Candidates.{is_stepped, period_in};
-ghost use Rattle.ics_rule.specs.RecurrencePeriods.{first_local, IsPeriodOf};
+ghost use Rattle.ics_period.specs.Candidates.{is_stepped, period_in};
+ghost use Rattle.ics_period.specs.RecurrencePeriods.{first_local, IsPeriodOf};
 ghost use Rattle.ics_rule.specs.Cursors.{IsCursorIn};
 ghost use Rattle.ics_rule.specs.Inner.Searches.{IsNextWanted, IsWalked, LooksAt};
-ghost use Rattle.ics_rule.specs.PeriodNumbers.{rules_end};
-ghost use Rattle.ics_rule.specs.Kept.{is_chosen};
+ghost use Rattle.ics_period.specs.PeriodNumbers.{rules_end};
+ghost use Rattle.ics_period.specs.Ranks.{is_chosen};
 ghost use Rattle.ics_fields.specs.Locals.{calendar_end};
 
 use crate::cursor::Cursor;
-use crate::effective_rule::EffectiveRule;
 use crate::never::chooses_none;
 use crate::open_periods::has_no_time;
 use crate::pass::next_open_step;
-use crate::recurrence_period::RecurrencePeriod;
 use crate::rounds::last_to_look_at;
 use crate::search::Search;
-use crate::step::period_of;
+use ics_period::{EffectiveRule, RecurrencePeriod, period_of};
 
 /// The least number from `own` on that is `first` or later by a multiple of the interval.
 pub(crate) fn next_step(first: u64, interval: u32, own: u64) -> u64

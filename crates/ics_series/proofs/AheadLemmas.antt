@@ -1,39 +1,45 @@
 -- What is still to come of a listing under each day, from day to day and from its beginning, and how many periods of rules are looked at for it.
 use Rattle.std.proofs.Common.{◌≡◌, ℕ, zero, suc, ℤ, pos, ◌+ℤ◌, ◌-ℤ◌, List, [], ◌∷◌, ◌++◌, Option, ◌⊎◌, inl, inr, ⊎_elim, Bool, true, false, None, refl, sym}
 use Rattle.std.proofs.Common.{◌∙◌, ap, subst, arith, ◌<ℤ◌, ◌≤ℤ◌, ◌&&◌, ◌||◌, int_lt, unsigned_abs, Result, Ok, Err, OnErr, filter, int_eq, ◌↔◌, ◌+◌, ◌≤◌, map}
-use Rattle.std.proofs.Common.{Some, sum_by, option_map, nat_cmp, Ordering}
+use Rattle.std.proofs.Common.{Some, sum_by, option_map, nat_cmp, Ordering, Less, int_le}
 use Rattle.std.proofs.lemmas.Int.{ints, int_max_is, int_min_is}
 use Rattle.ics_file.specs.File.{FileSaid}
 use Rattle.ics_zone.specs.Seconds.{IsNear}
-use Rattle.ics_zone.proofs.Cases.{int_lt_true, less_or_not_z, true_int_lt}
+use Rattle.ics_zone.proofs.Cases.{int_le_true, int_lt_true, less_or_not_z, true_int_lt}
+use Rattle.std.proofs.lemmas.Bool.{and_parts}
+use Rattle.std.specs.Cmp.{int_cmp_is}
+use Rattle.std.specs.Int.{int_max}
 use Rattle.ics_listing.specs.declared.window.Window.{Window}
 use Rattle.ics_listing.specs.After.{is_after}
 use Rattle.ics_series.specs.Ahead.{is_today, today, IsAheadOf, IsLater}
 use Rattle.ics_listing.specs.FileClocks.{Clock}
 use Rattle.ics_listing.specs.DayKeys.{day_rank_of, DayRank, first_near, last_near, IsNearDay, after_day_key, is_day_after, on_day, on_day_cmp, OnDay}
-use Rattle.ics_series.specs.OnDays.{Begins, IsOnDay}
+use Rattle.ics_series.specs.OnDays.{date_at, first_day, is_on, last_day, Begins, IsOnDay}
 use Rattle.ics_series.specs.OnDays.{IsBehindKey}
 use Rattle.ics_series.specs.DaySteps.{IsNearAgenda, IsPastAgenda, day_and_start, masters_in, AreDayMasters, AreMasters, IsDayMaster, IsFromStart, Scope}
 use Rattle.ics_series.specs.DaySteps.{begin_day, first_under, most_in, sum_days, AreDayBounds, HasDaysBound, IsLookedBefore}
 use Rattle.ics_listing.specs.Entry.{Entry, Rank, entry_cmp, rank_of}
 use Rattle.ics_listing.specs.Listing.{IsListing, IsIn}
-use Rattle.ics_series.specs.Meets.{IsListed, IsToCome, Meets}
+use Rattle.ics_series.specs.Meets.{IsListed, IsToCome}
+use Rattle.ics_starts.specs.MeetsWindow.{Meets}
 use Rattle.ics_series.specs.Occurs.{Occurs}
 use Rattle.ics_listing.specs.Tokens.{IsDayKey, IsKey}
 use Rattle.ics_listing.specs.FeedSources.{Source, Recurring}
 use Rattle.ics_series.specs.Sources.{master_of, recurring, uid_cmp, IsFrom, master_at, AreSources, IsMasterOf}
 use Rattle.ics_listing.proofs.ListingLemmas.{listing-filter, one-listing, relisted, all-in, all-as, sums-within, rises-on}
 use Rattle.ics_listing.proofs.NearLemmas.{day-within, day-under}
-use Rattle.ics_series.proofs.NearDayLemmas.{meets-near, near-first, near-last, occurs-forward}
-use Rattle.ics_series.proofs.OnDayLemmas.{day-first, joined, none-listed, on_day_total, shown-today, today-listing, today-shown}
+use Rattle.ics_series.proofs.NearDayLemmas.{meets-near, near-first, near-last, occurs-forward, shown-by}
+use Rattle.ics_series.proofs.OnDayLemmas.{day-first, on_day_total, shown-today, today-listing, today-shown}
+use Rattle.ics_starts.proofs.JoinedLemmas.{joined, none-listed}
 use Rattle.ics_series.proofs.ToComeLemmas.{after-come, come-after, come-listed}
 use Rattle.std.proofs.lemmas.List.Sums.{sum_by-le}
-use Rattle.ics_series.specs.HeldMost.{Master, held_most, most_in_days}
+use Rattle.ics_series.specs.HeldMost.{Master, held_most}
+use Rattle.ics_starts.specs.RawStarts.{most_in_days}
 use Rattle.ics_series.specs.PlacedEvents.{Placed, clocks_at}
 use Rattle.ics_listing.specs.Rising.{Rises}
 use Rattle.ics_series.specs.Steps.{HasStepBound}
 use Rattle.ics_listing.proofs.Cases.{here-or-later}
-use Rattle.ics_series.proofs.HoldingLaws.{sum_by-map}
+use Rattle.ics_series.proofs.HoldingLaws.{sum_by-map, wider-bound}
 use Rattle.ics_fields.specs.Locals.{day_of_local}
 use Rattle.std.specs.Cmp.Lexicographic.{slice_cmp}
 use Rattle.std.specs.Cmp.{IsTotalOrder}
@@ -61,6 +67,13 @@ module _ (files : List FileSaid) (display : Clock) (near : (t : ℤ) → IsNear 
   pub shown-last : (p : OnDay) → IsOnDay files display w p → p.day ≤ℤ last_near w
   shown-last p s = near-last display near w p.entry s.listed.1 (occurs-forward files display p.entry s.listed.0) p.day s.on
 
+  -- nothing is shown past the last day that the clock can show
+  pub none-past-last : {last day : ℤ} → ((t : ℤ) → t <ℤ w.to → date_at display t ≤ℤ last) → last ≤ℤ day → (p : OnDay) → IsOnDay files display w p
+      → p.day ≤ℤ day
+  none-past-last {last = last} most l p s =
+      let under = shown-by display near w p.entry s.listed.1 (occurs-forward files display p.entry s.listed.0) p.day s.on last most in
+      omega (arith, ints, under, l)
+
   -- the key under a day of what is shown has a token
   pub day-keys : ((o : Entry) → Occurs files display o → IsKey (rank_of o)) → (p : OnDay) → IsOnDay files display w p → IsDayKey (day_rank_of p)
   day-keys keys p s =
@@ -83,31 +96,37 @@ module _ (files : List FileSaid) (display : Clock) (near : (t : ℤ) → IsNear 
         subst (λ d. is_today display w d p.entry ≡ true) q.0.1 (shown-today files display near w p q.0.0),
       ))
 
+  -- all that is shown under a day comes after a key, if there is one
+  abbrev pub IsBeforeAll : ℤ → Option Rank → Type 0
+  IsBeforeAll day key = (p : OnDay) → IsUnder files display w day p → is_after key p.entry ≡ true
+
   -- nothing is shown under the days between two
   abbrev pub NoneBetween : ℤ → ℤ → Type 0
   NoneBetween day next = (p : OnDay) → IsOnDay files display w p → day <ℤ p.day → next ≤ℤ p.day
 
   -- then those of later days than the first begin with those of the second
-  next-day : {day next : ℤ} {today-list later-list : List OnDay} → day <ℤ next → NoneBetween day next → IsListing on_day_cmp (IsBegun next None) today-list →
-      IsListing on_day_cmp (IsLater files display w next) later-list → IsListing on_day_cmp (IsLater files display w day) (today-list ++ later-list)
-  next-day {day = day} {next = next} e none h k =
+  next-day : {day next : ℤ} (key : Option Rank) → IsBeforeAll next key → {today-list later-list : List OnDay} → day <ℤ next → NoneBetween day next
+      → IsListing on_day_cmp (IsBegun next key) today-list → IsListing on_day_cmp (IsLater files display w next) later-list
+      → IsListing on_day_cmp (IsLater files display w day) (today-list ++ later-list)
+  next-day {day = day} {next = next} key all e none h k =
       joined on_day_cmp (IsLater files display w day) h k
       (λ p q a b. let d = a.0.1 in let l = b.later in day-first p q (omega (arith, ints, d, l)))
       (λ p. ⊎_elim (λ a. let d = a.0.1 in record { shown = a.0.0; later = omega (arith, ints, d, e) }) (λ b. let l = b.later in
       record { shown = b.shown; later = omega (arith, ints, l, e) }))
       (λ p b. let l = none p b.shown b.later in
-      ⊎_elim (λ k. inr (record { shown = b.shown; later = k })) (λ k. inl ((b.shown, omega (arith, ints, k, l)), refl)) (less_or_not_z next p.day))
+      ⊎_elim (λ k. inr (record { shown = b.shown; later = k }))
+      (λ k. let on : p.day ≡ next = omega (arith, ints, k, l) in inl ((b.shown, on), all p (b.shown, on))) (less_or_not_z next p.day))
 
   -- A later day: where nothing is to come under the day or between them, that day's come next.
-  pub ahead-turned : {day next : ℤ} {n : Window} {none coming : List Entry} {list : List OnDay} → day <ℤ next → NoneBetween day next → IsNearDay w next n
-      → none ≡ [] → IsListing entry_cmp (IsListed files display n) coming
+  pub ahead-turned : {day next : ℤ} {n : Window} {none coming : List Entry} {list : List OnDay} (key : Option Rank) → IsBeforeAll next key → day <ℤ next
+      → NoneBetween day next → IsNearDay w next n → none ≡ [] → IsListing entry_cmp (IsToCome files display n key) coming
       → IsAheadOf files display w day none list → IsAheadOf files display w next coming list
-  ahead-turned {day = day} {next = next} {n = n} {coming = coming} e between h empty l a =
+  ahead-turned {day = day} {next = next} {n = n} {coming = coming} key all e between h empty l a =
       let later = filter (λ p. int_lt next p.day) a.later in
       let behind = listing-filter (λ p. int_lt next p.day) on_day_cmp (IsLater files display w day) (IsLater files display w next) a.later a.listing
       (λ p s t. record { shown = s.shown; later = int_lt_true next p.day t })
       (λ p s. let m = s.later in (record { shown = s.shown; later = omega (arith, ints, m, e) }, true_int_lt next p.day m)) in
-      let whole = next-day e between (begun-listing next None n (near-under n h) l) behind in
+      let whole = next-day key all e between (begun-listing next key n (near-under n h) l) behind in
       let same : a.later ≡ today display w next coming ++ later =
       one-listing on_day_cmp on_day_total (IsLater files display w day) a.later (today display w next coming ++ later) a.listing whole in
       record {
@@ -117,10 +136,11 @@ module _ (files : List FileSaid) (display : Clock) (near : (t : ℤ) → IsNear 
       }
 
   -- past the last day nothing is to come
-  none-later : (day : ℤ) → last_near w ≤ℤ day → IsListing on_day_cmp (IsLater files display w day) []
-  none-later day h = none-listed on_day_cmp (λ p l. let later = l.later in let last = shown-last p l.shown in omega (arith, ints, h, later, last))
+  none-later : (day : ℤ) → ((p : OnDay) → IsOnDay files display w p → p.day ≤ℤ day) → IsListing on_day_cmp (IsLater files display w day) []
+  none-later day h = none-listed on_day_cmp (λ p l. let later = l.later in let last = h p l.shown in omega (arith, ints, later, last))
 
-  pub ahead-ended : (day : ℤ) → last_near w ≤ℤ day → (none : List Entry) → none ≡ [] → (list : List OnDay) → IsAheadOf files display w day none list → list ≡ []
+  pub ahead-ended : (day : ℤ) → ((p : OnDay) → IsOnDay files display w p → p.day ≤ℤ day) → (none : List Entry) → none ≡ [] → (list : List OnDay)
+      → IsAheadOf files display w day none list → list ≡ []
   ahead-ended day h none empty list a =
       a.is ∙ (ap (λ xs. today display w day xs ++ a.later) empty
       ∙ one-listing on_day_cmp on_day_total (IsLater files display w day) a.later [] a.listing (none-later day h))
@@ -128,11 +148,12 @@ module _ (files : List FileSaid) (display : Clock) (near : (t : ℤ) → IsNear 
   -- There is a list of those of later days, and of all.
   some-later : (xs : List Entry) → IsListing entry_cmp (IsListed files display w) xs → (n : ℕ) (day : ℤ) → last_near w ≤ℤ (day +ℤ pos n) →
       (later : List OnDay) × IsListing on_day_cmp (IsLater files display w day) later
-  some-later xs l zero day h = ([], none-later day (omega (arith, ints, h)))
+  some-later xs l zero day h = ([], none-later day (λ p s. let last = shown-last p s in omega (arith, ints, h, last)))
   some-later xs l (suc n) day h =
       let rest = some-later xs l n (day +ℤ pos 1) (omega (arith, ints, h)) in (
         today display w (day +ℤ pos 1) xs ++ rest.0,
-        next-day (omega (arith, ints)) (λ p s l. omega (arith, ints, l)) (begun-listing (day +ℤ pos 1) None w (λ p q. q.0.listed.1) l) rest.1,
+        next-day None (λ p u. refl) (omega (arith, ints)) (λ p s l. omega (arith, ints, l))
+            (begun-listing (day +ℤ pos 1) None w (λ p q. q.0.listed.1) l) rest.1,
       )
 
   pub later-than : (xs : List Entry) → IsListing entry_cmp (IsListed files display w) xs → (day : ℤ) →
@@ -140,7 +161,7 @@ module _ (files : List FileSaid) (display : Clock) (near : (t : ℤ) → IsNear 
   later-than xs l day = some-later xs l (unsigned_abs (last_near w -ℤ day)) day (omega (arith, ints))
 
   -- Where a listing begins: at a day, and there behind a key.
-  module _ (after : Option DayRank) (day : ℤ) (key : Option Rank) (begins : Begins w after day key) where
+  module _ (after : Option DayRank) (day : ℤ) (key : Option Rank) (begins : Begins display w after day key) where
     -- past the last day there is nothing
     begun-past : last_near w <ℤ day → (coming : List Entry) → coming ≡ [] → IsListing on_day_cmp (IsBegun day key) (today display w day coming)
     begun-past past coming none = subst (λ (xs : List Entry). IsListing on_day_cmp (IsBegun day key) (today display w day xs)) (sym none)
@@ -154,13 +175,13 @@ module _ (files : List FileSaid) (display : Clock) (near : (t : ℤ) → IsNear 
     come-test a r = (λ h. grind (arith, ints), λ h. grind (arith, ints))
 
     begun-come : (p : OnDay) → IsBegun day key p ⊎ IsLater files display w day p → IsCome p
-    begun-come p (inl b) = (b.0.0, begins.behind p (shown-first p b.0.0) ∙ (come-test p.day (is_after key p.entry)).0 (inr (b.0.1, b.1)))
-    begun-come p (inr l) = (l.shown, begins.behind p (shown-first p l.shown) ∙ (come-test p.day (is_after key p.entry)).0 (inl l.later))
+    begun-come p (inl b) = (b.0.0, begins.behind p b.0.0.listed.1 b.0.0.on ∙ (come-test p.day (is_after key p.entry)).0 (inr (b.0.1, b.1)))
+    begun-come p (inr l) = (l.shown, begins.behind p l.shown.listed.1 l.shown.on ∙ (come-test p.day (is_after key p.entry)).0 (inl l.later))
 
     come-begun : (p : OnDay) → IsCome p → IsBegun day key p ⊎ IsLater files display w day p
     come-begun p c =
         ⊎_elim (λ l. inr (record { shown = c.0; later = l })) (λ k. inl ((c.0, k.0), k.1))
-        ((come-test p.day (is_after key p.entry)).1 (sym (begins.behind p (shown-first p c.0)) ∙ c.1))
+        ((come-test p.day (is_after key p.entry)).1 (sym (begins.behind p c.0.listed.1 c.0.on) ∙ c.1))
 
     all-shown : (xs : List Entry) → IsListing entry_cmp (IsListed files display w) xs →
         (list : List OnDay) × IsListing on_day_cmp (IsOnDay files display w) list
@@ -187,6 +208,34 @@ module _ (files : List FileSaid) (display : Clock) (near : (t : ℤ) → IsNear 
             is = one-listing on_day_cmp on_day_total IsCome (after_day_key after all.0) (today display w day coming ++ later.0) after-key begun;
           },
         )
+
+-- Where a listing begins with the first day that the clock can show in the window, since the key, if there is one, is of an earlier day. All
+-- that is shown under that day comes after a key of its own.
+module _ (clock : Clock) (w : Window) (day : ℤ) (first : (t : ℤ) → w.from ≤ℤ t → day ≤ℤ date_at clock t) where
+  not-before : (o : Entry) (at : ℤ) → is_on clock w o at ≡ true → day ≤ℤ at
+  not-before o at on =
+      let shown = int_le_true (first_day clock w o) at (and_parts (int_le (first_day clock w o) at) (int_le at (last_day clock w o)) on).0 in
+      let low = first (int_max o.start w.from) (omega (arith, ints, int_max_is o.start w.from)) in
+      omega (arith, ints, shown, low)
+
+  day-later : (after : Option DayRank) → ((a : DayRank) → after ≡ Some a → a.day <ℤ day) → (p : OnDay) → day ≤ℤ p.day → is_day_after after p ≡ true
+  day-later None early p low = refl
+  day-later (Some a) early p low = let before = early a refl in rw (sym (int_cmp_is a.day p.day Less (omega (arith, ints, before, low)))) refl
+
+  first-test : (at : ℤ) (r : Bool) → day ≤ℤ at → (at ≡ day → r ≡ true) → (int_lt day at || (int_eq at day && r)) ≡ true
+  first-test at r low same =
+      ⊎_elim (λ l. grind (arith, ints, l))
+      (λ n. let e : at ≡ day = omega (arith, ints, n, low) in let t = same e in grind (arith, ints, e, t)) (less_or_not_z day at)
+
+  pub begins-first : (after : Option DayRank) (key : Option Rank) → first_near w ≤ℤ day → ((a : DayRank) → after ≡ Some a → a.day <ℤ day)
+      → ((o : Entry) → Meets w o → is_on clock w o day ≡ true → is_after key o ≡ true) → Begins clock w after day key
+  begins-first after key low early all = record {
+    low = low;
+    behind = λ p met on.
+        let from = not-before p.entry p.day on in
+        day-later after early p from
+        ∙ sym (first-test p.day (is_after key p.entry) from (λ same. all p.entry met (subst (λ d. is_on clock w p.entry d ≡ true) same on)));
+  }
 
 -- What is drawn of the day's: it is skipped, or given.
 module _ (files : List FileSaid) (display : Clock) (w : Window) (day : ℤ) (o : Entry) (coming rest : List Entry) (drawn : coming ≡ o ∷ rest) where
@@ -278,12 +327,6 @@ module _ (files : List FileSaid) (display : Clock) (w : Window) (after : Option 
       (all-as (IsMasterOf files display w after) (IsOfFolder files display) (recurring sources)
       (λ m h. record { by = h.by; is = h.is; same = same-master files display m h.by h.clocks h.event }) are.each) all
 
--- a bound with nothing to come is one whatever is to come
-wider : (m : Recurring) (coming : List Entry) (most : ℕ) → HasStepBound m [] most → HasStepBound m coming most
-wider m coming most h = λ rule has.
-    let p = h rule has in
-    record { a = p.a; from = p.from; b = p.b; to = ⊎_elim inl (λ o. absurd o.stands) p.to; count = p.count }
-
 -- past the last day the window holds nothing near one
 none-near : (w : Window) (day : ℤ) (n : Window) → last_near w <ℤ day → IsNearDay w day n → ⊥
 none-near w day n past near =
@@ -312,7 +355,7 @@ module _ (s : Scope) (day : ℤ) (looked : ℕ) (before : IsLookedBefore s day l
     bound-of most bounds m k =
         let of = all-in (IsDayMaster s day) (recurring sources) are m k in
         let near = bounds of.by ((all.exact of.by).1 of.is) m of.searched in
-        wider m coming (most (master_of m)) (subst (λ (x : Master). HasStepBound m [] (most x)) (sym of.searched.same) near)
+        wider-bound m {xs = []} (λ e none. absurd none) (subst (λ (x : Master). HasStepBound m [] (most x)) (sym of.searched.same) near)
 
     day-most : (most : Master → ℕ) → AreDayBounds s masters day most → steps ≤ sum_by most (masters_in s masters)
     day-most most bounds =

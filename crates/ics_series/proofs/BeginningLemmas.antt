@@ -14,7 +14,7 @@ use Rattle.std.proofs.lemmas.Nat.{pow-add}
 use Rattle.std.proofs.Math.Pow.{pow_mono}
 use Rattle.hex.specs.Hex.{IsBytes}
 use Rattle.ics_series.specs.Inner.Beginnings.{beginning_of, number_by}
-use Rattle.ics_rule.proofs.KeptLemmas.{and_true}
+use Rattle.ics_period.proofs.Tests.{and_true}
 
 number-next : (more number place : ℕ) (bytes : List ℕ) →
     number_by (suc more) number (drop place bytes) ≡ number_by more (number * 256 + get_or bytes place 0) (drop (suc place) bytes)
@@ -64,10 +64,8 @@ first-differs x y xs ys h = ap (λ o. ordering_then o (slice_cmp nat_cmp xs ys))
 first-same : (x y : ℕ) (xs ys : List ℕ) → x ≡ y → slice_cmp nat_cmp xs ys ≡ Less → slice_cmp nat_cmp (x ∷ xs) (y ∷ ys) ≡ Less
 first-same x y xs ys e h = ap (λ o. ordering_then o (slice_cmp nat_cmp xs ys)) (sym (nat_cmp_is x y Equal e)) ∙ h
 
-abbrev IsEarlier : ℕ → ℕ → List ℕ → List ℕ → Type 0
-IsEarlier m n xs ys = (m < n) ⊎ ((m ≡ n) × (slice_cmp nat_cmp xs ys ≡ Less))
-
-earlier : (more m n : ℕ) (xs ys : List ℕ) → IsBytes xs → IsBytes ys → number_by more m xs < number_by more n ys → IsEarlier m n xs ys
+earlier : (more m n : ℕ) (xs ys : List ℕ) → IsBytes xs → IsBytes ys → number_by more m xs < number_by more n ys
+    → (m < n) ⊎ ((m ≡ n) × (slice_cmp nat_cmp xs ys ≡ Less))
 earlier zero m n xs ys p q h = inl h
 earlier (suc more) m n [] [] p q h =
     ⊎_elim (λ l. inl (omega (arith, l))) (λ e. absurd (not-before [] e.1)) (earlier more (m * 256 + 0) (n * 256 + 0) [] [] p q h)

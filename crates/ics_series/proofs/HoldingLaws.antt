@@ -1,7 +1,7 @@
 -- What the feeds of some masters hold together is at most what these masters may hold, and a series has looked at so many periods of its rule at most.
 use Rattle.std.proofs.Common.{inl, inr}
 use Rattle.std.proofs.Common.{◌≡◌, ℕ, ◌+◌, ◌≤◌, ℤ, List, [], ◌∷◌, ◌++◌, cond, length, map, Option, Some, None, refl, sym, ◌∙◌, ap, arith, ◌+ℤ◌, true, false}
-use Rattle.std.proofs.Common.{⊎_elim, sum_by, ◌≤ℤ◌, sum, length-append, nat_cmp, Less, ◌&&◌, ◌==◌, nat_le}
+use Rattle.std.proofs.Common.{⊎_elim, sum_by, ◌≤ℤ◌, sum, length-append, nat_cmp, ◌&&◌, ◌==◌, nat_le}
 use Rattle.std.specs.List.{flat_map, AllByRecursion}
 use Rattle.std.proofs.lemmas.List.{length-map}
 use Rattle.std.proofs.lemmas.List.Sums.{sum-map, sum_by-append, sum_by-cons}
@@ -10,22 +10,24 @@ use Rattle.ics_event.specs.declared.event.Event.{Event}
 use Rattle.ics_listing.specs.declared.occurrence.Occurrence.{Occurrence}
 use Rattle.ics_series.specs.declared.part.Part.{Part}
 use Rattle.ics_series.specs.declared.part.Part.TheVariants.{Singles, Series}
-use Rattle.ics_series.specs.declared.rule_starts.RuleStarts.{RuleStarts}
-use Rattle.ics_series.specs.declared.series.Series.{Series as SeriesFeed}
+use Rattle.ics_starts.specs.declared.rule_starts.RuleStarts.{RuleStarts}
+use Rattle.ics_starts.specs.declared.series.Series.{Series as SeriesFeed}
 use Rattle.ics_listing.specs.declared.window.Window.{Window}
-use Rattle.ics_series.specs.declared.zones.FileZones.{FileZones}
+use Rattle.ics_starts.specs.declared.zones.FileZones.{FileZones}
 use Rattle.ics_listing.specs.Entry.{Entry, entry_cmp}
-use Rattle.ics_series.specs.HeldMost.{held_most, most_in_days, Master}
-use Rattle.ics_series.specs.Holding.{part_holds, rule_held, series_holds, part_looked, rule_looked}
+use Rattle.ics_series.specs.HeldMost.{held_most, Master}
+use Rattle.ics_starts.specs.RawStarts.{most_in_days}
+use Rattle.ics_series.specs.Holding.{part_holds, part_looked}
+use Rattle.ics_starts.specs.RuleHolding.{rule_held, series_holds, rule_looked}
 use Rattle.ics_listing.specs.Leads.{listed, AreNear}
-use Rattle.ics_series.specs.Meeting.{entry_from}
+use Rattle.ics_starts.specs.Meeting.{entry_from}
 use Rattle.ics_series.specs.AgendaParts.{part_sources, part_near}
-use Rattle.ics_series.specs.SeriesStarts.{first_of, HasOwnRule, rule_asked, IsAskedNear}
+use Rattle.ics_starts.specs.SeriesStarts.{first_of, HasOwnRule, rule_asked, IsAskedNear}
 use Rattle.ics_series.specs.Sources.{is_once, master_of, recurring, AreApart, uid_cmp}
 use Rattle.ics_listing.specs.FeedSources.{Recurring, Source}
 use Rattle.ics_listing.specs.FeedSources.Source.{Of, Once}
-use Rattle.ics_series.specs.FileZones.{clocks_in}
-use Rattle.ics_series.proofs.RuleStepLemmas.{few-held, asked-number}
+use Rattle.ics_starts.specs.FileZones.{clocks_in}
+use Rattle.ics_starts.proofs.RuleStepLemmas.{few-held, asked-number}
 use Rattle.std.specs.Cmp.Lexicographic.{slice_cmp}
 use Rattle.std.proofs.lemmas.Cmp.{nat_list_cmp_total}
 use Rattle.std.proofs.lemmas.Int.{ints}
@@ -33,27 +35,28 @@ use Rattle.ics_rule.specs.Cursors.{looks_from, is_met, period_count}
 use Rattle.ics_fields.specs.Locals.{local_seconds, number, midnight, whole_days, calendar_end}
 use Rattle.ics_rule.proofs.CursorLemmas.{few_steps, count_within}
 use Rattle.ics_listing.specs.Inner.EntryLaws.{entry_total}
-use Rattle.ics_series.specs.Leeway.{seconds_off}
+use Rattle.ics_starts.specs.Leeway.{seconds_off}
 use Rattle.ics_listing.specs.Listing.{IsIn}
 use Rattle.ics_listing.specs.Merged.{merged}
 use Rattle.ics_listing.specs.Rising.{Rises}
-use Rattle.ics_series.specs.RuleStarts.{ends_at, midnight_number}
-use Rattle.ics_series.specs.SeriesFeed.{series_near}
-use Rattle.ics_series.specs.Singles.{is_single}
+use Rattle.ics_starts.specs.RuleStarts.{ends_at, midnight_number}
+use Rattle.ics_starts.specs.SeriesFeed.{series_near}
+use Rattle.ics_starts.specs.SingleEvents.{is_single}
 use Rattle.ics_listing.specs.StartTimes.{local_of}
-use Rattle.ics_series.specs.Starts.{recurrence_of}
+use Rattle.ics_starts.specs.Starts.{recurrence_of}
 use Rattle.ics_series.specs.Steps.{HasStepBound}
 use Rattle.ics_listing.proofs.StartOrderLemmas.{number-seconds}
 use Rattle.ics_listing.proofs.ListingLemmas.{not-less-itself, all-as, in-all}
 use Rattle.ics_listing.proofs.UnionLemmas.{from-one, IsInOne, merged-in}
 use Rattle.std.proofs.lemmas.Bool.Decides.{nat_tests}
 use Rattle.std.proofs.lemmas.Bool.{ltb-true, and_from, lt-ltb}
-use Rattle.ics_rule.specs.Candidates.{is_stepped, period_in}
-use Rattle.ics_rule.specs.EffectiveRules.{effective}
-use Rattle.ics_rule.specs.Kept.{count, until_moment}
-use Rattle.ics_rule.specs.Recurrence.{Recurrence}
-use Rattle.ics_rule.proofs.Counts.{count_mono}
-use Rattle.ics_rule.proofs.KeptLemmas.{and_true}
+use Rattle.ics_period.specs.Candidates.{is_stepped, period_in}
+use Rattle.ics_period.specs.EffectiveRules.{effective}
+use Rattle.ics_period.specs.Ranks.{count}
+use Rattle.ics_rule.specs.Kept.{until_moment}
+use Rattle.ics_period.specs.Recurrence.{Recurrence}
+use Rattle.ics_period.proofs.Counts.{count_mono}
+use Rattle.ics_period.proofs.Tests.{and_true}
 
 -- More locals lie in no fewer periods.
 le-down : (a b m : ℕ) → b ≤ a → nat_le a m ≡ true → nat_le b m ≡ true
@@ -98,9 +101,6 @@ recurring-append [] ys = refl
 recurring-append (Once ∷ xs) ys = recurring-append xs ys
 recurring-append (Of m ∷ xs) ys = ap (λ ms. m ∷ ms) (recurring-append xs ys)
 
-pub sum-recurring : (f : Recurring → ℕ) (xs ys : List Source) → sum_by f (recurring (xs ++ ys)) ≡ sum_by f (recurring xs) + sum_by f (recurring ys)
-sum-recurring f xs ys = ap (sum_by f) (recurring-append xs ys) ∙ sum_by-append f (recurring xs) (recurring ys)
-
 pub sum_by-map : {A B : Type 0} (f : B → ℕ) (g : A → B) (xs : List A) → sum_by f (map g xs) ≡ sum_by (λ x. f (g x)) xs
 sum_by-map f g xs = sym (sum-map f (map g xs)) ∙ (ap sum (map-map f g xs) ∙ sum-map (λ x. f (g x)) xs)
 
@@ -132,8 +132,9 @@ module _ {X : Type 0} (head : X → Option Occurrence) (part : X → Part) where
   leads-few (x ∷ xs) =
       let own = part_sources (part x) in
       let long = length-append (listed (head x) (part_holds (part x))) (held_by xs) in
-      let sums = sum-recurring most_of own (sources_in part xs) in
-      omega (arith, long, sums, sum_by-append once own (sources_in part xs), lead-few (head x) (part x), leads-few xs)
+      let more = sources_in part xs in
+      let sums = ap (sum_by most_of) (recurring-append own more) ∙ sum_by-append most_of (recurring own) (recurring more) in
+      omega (arith, long, sums, sum_by-append once own more, lead-few (head x) (part x), leads-few xs)
 
   -- of which one at most is of the events that start once, and one more that was given last
   pub held-with-last : (last : Option Occurrence) (xs : List X) → AreApart (sources_in part xs) →
@@ -180,10 +181,6 @@ abbrev IsOfPart : Part → Entry → Type 0
 IsOfPart (Singles s) e = is_single e.event ≡ true
 IsOfPart (Series s) e = e.event ≡ s.value.event.now
 
-not-itself : (m n : Recurring) (e : Entry) → e.event ≡ m.event → e.event ≡ n.event → uid_cmp m n ≡ Less → ⊥
-not-itself m n e p q l =
-    not-less-itself (slice_cmp nat_cmp) nat_list_cmp_total m.event.uid (ap (λ (v : Event). slice_cmp nat_cmp m.event.uid v.uid) (sym p ∙ q) ∙ l)
-
 not-single : (e : Entry) (event : Event) → e.event ≡ event → is_single e.event ≡ true → is_single event ≡ false → ⊥
 not-single e event p s r = let no : true ≡ false = sym s ∙ (ap is_single p ∙ r) in absurd cc
 
@@ -204,7 +201,9 @@ both-near : (e : Entry) (p q : Part) (more : List Source) → AreOwn (part_sourc
 both-near e (Singles s) (Singles t) more own a b = (a, b)
 both-near e (Singles s) (Series t) more own a b = absurd (not-single e t.value.event.now b a own.0.0)
 both-near e (Series s) (Singles t) more own a b = absurd (not-single e s.value.event.now a b own.0.0)
-both-near e (Series s) (Series t) more own a b = absurd (not-itself (master_in s.value) (master_in t.value) e a b own.1.0.0)
+both-near e (Series s) (Series t) more own a b =
+    let uid = s.value.event.now.uid in
+    absurd (not-less-itself (slice_cmp nat_cmp) nat_list_cmp_total uid (ap (λ (v : Event). slice_cmp nat_cmp uid v.uid) (sym a ∙ b) ∙ own.1.0.0))
 
 own-rest : (p : Part) (more : List Source) → AreOwn (part_sources p ++ more) → AreOwn more
 own-rest (Singles s) more own = own

@@ -13,16 +13,18 @@ use Rattle.ics_event.specs.Kept.{KeptTexts, kept_event}
 use Rattle.ics_file.specs.Kept.{kept_said}
 use Rattle.ics_series.specs.Chosen.{IsChosen, IsMaster, IsOverridden, IsOverride, subject_by, subject_of}
 use Rattle.ics_listing.specs.FileClocks.{Clock, Clocks}
-use Rattle.ics_series.specs.Clocks.{clocks_of}
+use Rattle.ics_starts.specs.Clocks.{clocks_of}
 use Rattle.ics_listing.specs.Entry.{Entry, entry_cmp}
 use Rattle.ics_listing.specs.Listing.{IsIn, IsListing}
-use Rattle.ics_series.specs.Meets.{IsListed, Meets}
-use Rattle.ics_series.specs.Occurs.{IsInstance, IsMoved, IsOf, Occurs}
+use Rattle.ics_series.specs.Meets.{IsListed}
+use Rattle.ics_starts.specs.MeetsWindow.{Meets}
+use Rattle.ics_starts.specs.Instances.{IsInstance, IsOf}
+use Rattle.ics_series.specs.Occurs.{IsMoved, Occurs}
 use Rattle.ics_series.specs.OnDays.{IsOnDay, is_on}
 use Rattle.ics_listing.specs.DayKeys.{OnDay, on_day, on_day_cmp}
 use Rattle.ics_series.specs.PlacedEvents.{IsPlaced, Placed, clocks_at, placed_cmp, zones_of}
 use Rattle.ics_listing.specs.Rising.{IsBefore, Rises}
-use Rattle.ics_series.specs.Starts.{GivesStart, IsRuleStart}
+use Rattle.ics_starts.specs.Starts.{GivesStart, IsRuleStart}
 use Rattle.ics_listing.specs.declared.start.StartSource.{StartSource}
 use Rattle.ics_listing.specs.declared.start.StartSource.TheVariants.{Kept, Listed}
 use Rattle.ics_listing.specs.declared.window.Window.{Window}
@@ -121,18 +123,6 @@ module _ (keep : KeptTexts) where
       stays = h.stays;
     }
 
-    of-there : {o : Entry} → IsOf clocks e o → IsOf clocks (kept_event keep e) (kept_entry o)
-    of-there h = record { event = ap (kept_event keep) h.event; recurrence = h.recurrence; lasts = instance-there h.lasts }
-
-    of-back : {o : Entry} → IsOf clocks (kept_event keep e) o → IsOf clocks e (record o { event = e })
-    of-back h = record { event = refl; recurrence = h.recurrence; lasts = instance-back h.lasts }
-
-    moved-there : {o : Entry} → IsMoved clocks e o → IsMoved clocks (kept_event keep e) (kept_entry o)
-    moved-there h = record { event = ap (kept_event keep) h.event; starts = h.starts; ends = h.ends }
-
-    moved-back : {o : Entry} → IsMoved clocks (kept_event keep e) o → IsMoved clocks e (record o { event = e })
-    moved-back h = record { event = refl; starts = h.starts; ends = h.ends }
-
   -- FILES. Their events stand where they stood, and their zones are the same.
   module _ (files : List FileSaid) (display : Clock) where
     abbrev kept_files : List FileSaid
@@ -188,12 +178,6 @@ module _ (keep : KeptTexts) where
       greatest = λ q there s. h.greatest (kept_placed q) (placed-there q there) (subject-kept q ∙ (s ∙ sym (subject-kept p)));
     }
 
-    master-there : (p : Placed) → IsMaster files display p → IsMaster kept_files display (kept_placed p)
-    master-there p h = record { chosen = chosen-there p h.chosen; single = h.single }
-
-    master-back : (p : Placed) → IsPlaced files p → IsMaster kept_files display (kept_placed p) → IsMaster files display p
-    master-back p at h = record { chosen = chosen-back p at h.chosen; single = h.single }
-
     abbrev overridden_by : Placed → Clocks → Option ℤ
     overridden_by p clocks = (subject_by clocks p.event).recurrence
 
@@ -219,30 +203,30 @@ module _ (keep : KeptTexts) where
     occurs-there : (o : Entry) → Occurs files display o → Occurs kept_files display (kept_entry o)
     occurs-there o (inl h) = inl (record {
       master = kept_placed h.master;
-      is = master-there h.master h.is;
-      of = subst (λ clocks. IsOf clocks (kept_event keep h.master.event) (kept_entry o)) (sym (clocks-kept h.master.file)) (of-there h.of);
+      is = record { chosen = chosen-there h.master h.is.chosen; single = h.is.single };
+      of = subst (λ clocks. IsOf clocks (kept_event keep h.master.event) (kept_entry o)) (sym (clocks-kept h.master.file))
+          (record { event = ap (kept_event keep) h.of.event; recurrence = h.of.recurrence; lasts = instance-there h.of.lasts });
       kept = λ over. h.kept (overridden-back o.event.uid o.recurrence over);
     })
     occurs-there o (inr h) = inr (record {
       override = kept_placed h.override;
       is = override-there h.override o.recurrence h.is;
-      of = subst (λ clocks. IsMoved clocks (kept_event keep h.override.event) (kept_entry o)) (sym (clocks-kept h.override.file)) (moved-there h.of);
+      of = subst (λ clocks. IsMoved clocks (kept_event keep h.override.event) (kept_entry o)) (sym (clocks-kept h.override.file))
+          (record { event = ap (kept_event keep) h.of.event; starts = h.of.starts; ends = h.of.ends });
     })
 
-    abbrev OccursFrom : Entry → Type 0
-    OccursFrom o = (w : Entry) × Occurs files display w × (kept_entry w ≡ o)
-
-    occurs-back : (o : Entry) → Occurs kept_files display o → OccursFrom o
+    occurs-back : (o : Entry) → Occurs kept_files display o → (w : Entry) × Occurs files display w × (kept_entry w ≡ o)
     occurs-back o (inl h) =
         let from = placed-back h.master h.is.chosen.placed in
         let p : Placed = from.0 in
+        let is = subst (λ (q : Placed). IsMaster kept_files display q) (sym from.2) h.is in
         let of = subst (λ clocks. IsOf clocks (kept_event keep p.event) o) (clocks-kept p.file)
         (subst (λ (q : Placed). IsOf (clocks_at kept_files display q.file) q.event o) (sym from.2) h.of) in (
           record o { event = p.event },
           inl (record {
             master = p;
-            is = master-back p from.1 (subst (λ (q : Placed). IsMaster kept_files display q) (sym from.2) h.is);
-            of = of-back of;
+            is = record { chosen = chosen-back p from.1 is.chosen; single = is.single };
+            of = record { event = refl; recurrence = of.recurrence; lasts = instance-back of.lasts };
             kept = λ over. h.kept (overridden-there o.event.uid o.recurrence (subst (λ uid. IsOverridden files display uid o.recurrence)
                 (sym (ap (λ (e : Event). e.uid) of.event)) over));
           }),
@@ -257,24 +241,20 @@ module _ (keep : KeptTexts) where
           inr (record {
             override = p;
             is = override-back p o.recurrence from.1 (subst (λ (q : Placed). IsOverride kept_files display q o.recurrence) (sym from.2) h.is);
-            of = moved-back of;
+            of = record { event = refl; starts = of.starts; ends = of.ends };
           }),
           λ i. record o { event = sym of.event i },
         )
 
     module _ (w : Window) where
-      meets-there : (o : Entry) → Meets w o → Meets w (kept_entry o)
-      meets-there o h = record { begun = h.begun; lasting = h.lasting; started = h.started }
-
-      meets-back : (o : Entry) → Meets w (kept_entry o) → Meets w o
-      meets-back o h = record { begun = h.begun; lasting = h.lasting; started = h.started }
-
       listed-there : (o : Entry) → IsListed files display w o → IsListed kept_files display w (kept_entry o)
-      listed-there o h = (occurs-there o h.0, meets-there o h.1)
+      listed-there o h = (occurs-there o h.0, record { begun = h.1.begun; lasting = h.1.lasting; started = h.1.started })
 
       listed-back : (o : Entry) → IsListed kept_files display w o → (x : Entry) × IsListed files display w x × (kept_entry x ≡ o)
       listed-back o h =
-          let from = occurs-back o h.0 in (from.0, (from.1, meets-back from.0 (subst (Meets w) (sym from.2) h.1)), from.2)
+          let from = occurs-back o h.0 in
+          let meets = subst (Meets w) (sym from.2) h.1 in
+          (from.0, (from.1, record { begun = meets.begun; lasting = meets.lasting; started = meets.started }), from.2)
 
       one-listed : (x y : Entry) → IsListed files display w x → IsListed files display w y → kept_entry x ≡ kept_entry y → x ≡ y
       one-listed x y h k e =

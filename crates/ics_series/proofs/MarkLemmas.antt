@@ -1,25 +1,20 @@
--- Marks of searches: which ones there are after one is put, and that a search can go on from one.
-use Rattle.std.proofs.Common.{◌≡◌, ◌∙◌, ℕ, zero, suc, List, [], ◌∷◌, ◌++◌, map, replicate, take, Option, Some, None, MatchOption, is_none, is_some, true, false}
+-- Marks of searches: which ones there are after one is put.
+use Rattle.std.proofs.Common.{◌≡◌, ◌∙◌, ℕ, zero, suc, List, [], ◌∷◌, ◌++◌, map, replicate, take, Option, Some, None, MatchOption, is_none, true, false}
 use Rattle.std.proofs.Common.{⊎_elim, refl, sym, ap, subst, slice_get, option_map}
 use Rattle.std.specs.Option.{unwrap_or}
 use Rattle.std.proofs.lemmas.Option.{slice_get-map}
 use Rattle.ics_file.specs.File.{FileSaid}
 use Rattle.ics_event.specs.declared.event.Event.{Event}
-use Rattle.ics_rule.specs.Cursors.{looks_from}
-use Rattle.ics_series.specs.declared.mark.Mark.{Mark}
-use Rattle.ics_series.specs.declared.series.Series.{Series}
+use Rattle.ics_starts.specs.declared.mark.Mark.{Mark}
+use Rattle.ics_starts.specs.declared.series.Series.{Series}
 use Rattle.ics_series.specs.declared.version.Version.{Version}
-use Rattle.ics_series.specs.Inner.Marks.{AreMarks, HasNoMark, IsMarkOf, IsPut}
-use Rattle.ics_series.specs.SeriesFeed.{series_sources}
+use Rattle.ics_series.specs.Inner.Marks.{AreMarks, HasNoMark, IsPut}
+use Rattle.ics_starts.specs.RuleMarks.{IsMarkOf}
+use Rattle.ics_starts.specs.SeriesFeed.{series_sources}
 use Rattle.ics_listing.specs.FeedSources.{Recurring, Source}
 use Rattle.ics_listing.specs.FeedSources.Source.{Of, Once}
 use Rattle.ics_series.specs.Spots.{event_at}
 use Rattle.ics_series.specs.Versions.{seen, Label}
-
--- under COUNT a search looks from the start on, wherever it begins
-pub looks-counted : (o : Option ℕ) (start a b : ℕ) → is_some o ≡ true → looks_from o start a ≡ looks_from o start b
-looks-counted None start a b h = let f : false ≡ true = h in absurd cc
-looks-counted (Some c) start a b h = refl
 
 -- where there is none each place has none
 none-at : (marks : List (Option Mark)) (k : ℕ) (m : Option Mark) → HasNoMark marks → slice_get marks k ≡ Some m → is_none m ≡ true
@@ -65,11 +60,11 @@ module _ (files : List FileSaid) (labels : List Label) where
   mark-of vs is place (Some m) marks are at v event there e =
       are place (Some m) (seen v) event at (ap (λ ls. slice_get ls place) is ∙ (slice_get-map seen vs place ∙ ap (option_map seen) there)) e
 
--- the event of the first of these sources
-abbrev first_event : Event → List Source → Event
-first_event d [] = d
-first_event d (Once ∷ sources) = d
-first_event d (Of m ∷ sources) = m.event
+-- the first of these sources
+abbrev pub first_source : Recurring → List Source → Recurring
+first_source d [] = d
+first_source d (Once ∷ sources) = d
+first_source d (Of m ∷ sources) = m
 
 -- what a series leaves is a mark of the version that it is of
 module _ (files : List FileSaid) (vs : List Version) (k : ℕ) {v : Version} (there : slice_get vs k ≡ Some v) where
@@ -79,5 +74,5 @@ module _ (files : List FileSaid) (vs : List Version) (k : ℕ) {v : Version} (th
   own-mark series mark {m = m} stands sources is label event at e =
       let label-is : label ≡ seen v = ap (λ o. unwrap_or o label) (sym at ∙ (slice_get-map seen vs k ∙ ap (option_map seen) there)) in
       let mine : event ≡ m.event = ap (λ o. unwrap_or o event) (sym e ∙ (ap (λ (l : Label). event_at files l.spot) label-is ∙ stands)) in
-      let series-is : series.event.now ≡ m.event = ap (first_event event) sources in
+      let series-is : series.event.now ≡ m.event = ap (λ ms. (first_source m ms).event) sources in
       subst (λ x. IsMarkOf x mark) (series-is ∙ sym mine) is

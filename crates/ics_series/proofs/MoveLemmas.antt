@@ -9,7 +9,7 @@ use Rattle.ics_file.specs.File.{FileSaid}
 use Rattle.ics_event.specs.declared.event.Event.{Event}
 use Rattle.ics_series.specs.Chosen.{subject_by, subject_of, IsChosen, IsOverride, IsOverridden, SubjectSeen}
 use Rattle.ics_listing.specs.FileClocks.{Clock}
-use Rattle.ics_series.specs.Clocks.{clocks_of}
+use Rattle.ics_starts.specs.Clocks.{clocks_of}
 use Rattle.ics_listing.specs.Entry.{Entry}
 use Rattle.ics_series.specs.Laws.{AddedFiles, AreApart, AreReordered, HaveApartVersions, OrderOfFiles}
 use Rattle.ics_series.specs.Occurs.{Occurs}

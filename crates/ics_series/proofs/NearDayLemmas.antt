@@ -1,6 +1,7 @@
 -- Midnights before and after an instant; the days of an occurrence lie near the instants at which it meets the window.
 use Rattle.std.proofs.Common.{◌≡◌, List, ℤ, pos, ◌+ℤ◌, ◌-ℤ◌, ◌⊎◌, inl, inr, ⊎_elim, true, false, refl, sym, ◌∙◌, arith, ◌<ℤ◌, ◌≤ℤ◌, int_le}
-use Rattle.std.proofs.Common.{if◌then◌else◌, int_eq}
+use Rattle.std.proofs.Common.{if◌then◌else◌, int_eq, ap, Some, Less, Greater}
+use Rattle.std.specs.Cmp.{int_cmp_is}
 use Rattle.std.specs.Int.{int_max, int_min}
 use Rattle.std.proofs.lemmas.Int.{int_max_is, int_min_is, ints}
 use Rattle.std.proofs.lemmas.Bool.{and_parts}
@@ -10,13 +11,14 @@ use Rattle.ics_zone.proofs.Cases.{int_le_true, less_or_not_z}
 use Rattle.ics_fields.specs.Locals.{midnight, day_of_local}
 use Rattle.ics_listing.specs.declared.window.Window.{Window}
 use Rattle.ics_listing.specs.FileClocks.{Clock}
-use Rattle.ics_series.specs.Clocks.{local_at}
+use Rattle.ics_starts.specs.Clocks.{local_at}
 use Rattle.ics_series.specs.OnDays.{date_at, end_day, first_day, is_on, last_day}
 use Rattle.ics_listing.specs.DayKeys.{first_near, last_near}
-use Rattle.ics_listing.specs.Entry.{Entry}
-use Rattle.ics_series.specs.Meets.{Meets}
+use Rattle.ics_listing.specs.declared.key.Key.{Key}
+use Rattle.ics_listing.specs.After.{is_after}
+use Rattle.ics_listing.specs.Entry.{Entry, key_rank}
+use Rattle.ics_starts.specs.MeetsWindow.{Meets}
 use Rattle.ics_series.specs.Occurs.{Occurs}
-use Rattle.ics_listing.specs.WindowMeeting.{is_met}
 use Rattle.ics_listing.proofs.NearLemmas.{day-under}
 
 -- an occurrence ends where it starts, or later
@@ -93,16 +95,62 @@ module _ (clock : Clock) (near : (t : ℤ) → IsNear (clock.offset t)) where
         ⊎_elim (λ k. omega (arith, ints, k, under.1, met.begun, w.ordered, start, int_max_is o.start w.from))
         (λ h. omega (arith, ints, h.1, under.1, end, int_min_is o.finish w.to)) by-length
 
--- Whether an occurrence meets a window, by the test.
-pub less-le : (a b : ℤ) → b <ℤ a → int_le a b ≡ false
-less-le a b e = grind (arith, ints)
+    -- nor is one past the last that the clock can show there
+    pub shown-by : (last : ℤ) → ((t : ℤ) → t <ℤ w.to → date_at clock t ≤ℤ last) → day ≤ℤ last
+    shown-by last most =
+        ⊎_elim
+        (λ k.
+        let under = most (int_max o.start w.from) (omega (arith, ints, met.begun, w.ordered, int_max_is o.start w.from)) in omega (arith, ints, k, under))
+        (λ k.
+        let under = most (int_min o.finish w.to -ℤ pos 1) (omega (arith, ints, int_min_is o.finish w.to)) in omega (arith, ints, k.1, under)) by-length
 
-pub is_met-meets : (w : Window) (o : Entry) → is_met w o ≡ true → Meets w o
-is_met-meets w o e = record {
-  begun = grind (arith, ints);
-  lasting = ⊎_elim inl (λ l. inr (grind (arith, ints), grind (arith, ints))) (less_or_not_z w.from o.finish);
-  started = λ n. grind (arith, ints);
-}
+-- a later instant is not on an earlier day
+day-rises : (a b : ℤ) → a ≤ℤ b → day_of_local a ≤ℤ day_of_local b
+day-rises a b l =
+    let low = day-under a (day_of_local a) refl in
+    let high = day-under b (day_of_local b) refl in
+    omega (arith, ints, low.0, low.1, high.0, high.1, l)
 
-pub meets-is_met : (w : Window) (o : Entry) → Meets w o → is_met w o ≡ true
-meets-is_met w o m = grind (arith, ints, m.begun, m.lasting, m.started)
+-- The days that a clock shows in a window lie between that of its first instant, by the least of the clock's offsets, and that of its last, by
+-- the greatest.
+module _ (w : Window) {day seconds : ℤ} (is : day ≡ day_of_local seconds) where
+  pub first-shown : (clock : Clock) (least : ℤ) → seconds ≡ w.from +ℤ least → (t : ℤ) → least ≤ℤ clock.offset t → w.from ≤ℤ t → day ≤ℤ date_at clock t
+  first-shown clock least at t low from =
+      let rise = day-rises seconds (local_at clock t) (omega (arith, ints, at, low, from)) in omega (arith, ints, is, rise)
+
+  pub last-shown : (clock : Clock) (most : ℤ) → seconds ≡ (w.to -ℤ pos 1) +ℤ most → (t : ℤ) → clock.offset t ≤ℤ most → t <ℤ w.to → date_at clock t ≤ℤ day
+  last-shown clock most at t high to =
+      let rise = day-rises (local_at clock t) seconds (omega (arith, ints, at, high, to)) in omega (arith, ints, is, rise)
+
+  pub first-within : (least : ℤ) → seconds ≡ w.from +ℤ least → (pos 0 -ℤ pos 93_599) ≤ℤ least → first_near w ≤ℤ day
+  first-within least at short =
+      let own = day-under seconds (day_of_local seconds) refl in
+      let from = day-under w.from (day_of_local w.from) refl in
+      omega (arith, ints, is, at, short, own.0, own.1, from.0, from.1)
+
+  pub last-within : (most : ℤ) → seconds ≡ (w.to -ℤ pos 1) +ℤ most → most ≤ℤ pos 93_599 → day ≤ℤ last_near w
+  last-within most at short =
+      let own = day-under seconds (day_of_local seconds) refl in
+      let last = day-under (w.to -ℤ pos 1) (day_of_local (w.to -ℤ pos 1)) refl in
+      omega (arith, ints, is, at, short, own.0, own.1, last.0, last.1)
+
+-- What is shown under a day before that of the window's first instant begins after it.
+pub begins-later : (clock : Clock) (w : Window) (o : Entry) {day : ℤ} → is_on clock w o day ≡ true → day <ℤ date_at clock w.from → w.from <ℤ o.start
+begins-later clock w o {day = day} on early =
+    let first = int_le_true (first_day clock w o) day (and_parts (int_le (first_day clock w o) day) (int_le day (last_day clock w o)) on).0 in
+    ⊎_elim (λ l. l) (λ n.
+    let at : int_max o.start w.from ≡ w.from = omega (arith, ints, n, int_max_is o.start w.from) in
+    let same = ap (date_at clock) at in
+    absurd (omega (arith, ints, same, first, early))) (less_or_not_z w.from o.start)
+
+-- What begins in a window comes after a key whose start is before it.
+pub above-floor : (w : Window) (floor : Key) (o : Entry) → floor.start ≡ w.from -ℤ pos 1 → w.from ≤ℤ o.start → is_after (Some (key_rank floor)) o ≡ true
+above-floor w floor o below from = rw (sym (int_cmp_is floor.start o.start Less (omega (arith, ints, below, from)))) refl
+
+-- and only what begins at that start or later does
+pub from-floor : (w : Window) (floor : Key) (o : Entry) → floor.start ≡ w.from -ℤ pos 1 → is_after (Some (key_rank floor)) o ≡ true
+    → (w.from -ℤ pos 1) ≤ℤ o.start
+from-floor w floor o below after =
+    ⊎_elim
+    (λ less. let no : false ≡ true = rw (sym (int_cmp_is floor.start o.start Greater (omega (arith, ints, less, below)))) at after in absurd cc)
+    (λ from. from) (less_or_not_z o.start (w.from -ℤ pos 1))

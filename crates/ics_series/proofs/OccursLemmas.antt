@@ -4,12 +4,14 @@ use Rattle.ics_file.specs.File.{FileSaid}
 use Rattle.ics_event.specs.declared.event.Event.{Event}
 use Rattle.ics_series.specs.Chosen.{subject_of, SubjectSeen, IsMaster, IsOverride}
 use Rattle.ics_listing.specs.FileClocks.{Clock, Clocks}
-use Rattle.ics_series.specs.Clocks.{instant}
+use Rattle.ics_starts.specs.Clocks.{instant}
 use Rattle.ics_listing.specs.Entry.{Entry}
-use Rattle.ics_series.specs.Occurs.{IsMoved, IsOf, IsOfMaster, IsOfOverride, Occurs}
+use Rattle.ics_series.specs.Occurs.{IsMoved, IsOfMaster, IsOfOverride, Occurs}
+use Rattle.ics_starts.specs.Instances.{IsOf}
 use Rattle.ics_series.specs.PlacedEvents.{Placed, clocks_at}
-use Rattle.ics_series.proofs.StartSourceLemmas.{one-instance}
-use Rattle.ics_series.proofs.VersionLemmas.{one-chosen, same-entry}
+use Rattle.ics_starts.proofs.StartSourceLemmas.{one-instance}
+use Rattle.ics_series.proofs.VersionLemmas.{one-chosen}
+use Rattle.ics_starts.proofs.EntryLemmas.{same-entry}
 
 abbrev sub : List ℕ → Option ℤ → SubjectSeen
 sub uid recurrence = record { uid = uid; recurrence = recurrence }

@@ -2,7 +2,7 @@
 use Rattle.std.specs.Cmp.{IsTotalOrder, int_cmp_is}
 use Rattle.std.specs.List.{filter}
 use Rattle.std.specs.Ordering.{ordering_then}
-use Rattle.std.proofs.Common.{◌≡◌, ℤ, List, [], ◌∷◌, ◌++◌, map, ◌⊎◌, inl, inr, ⊎_elim, true, refl, sym, ◌∙◌, ap, subst, Some, cond, ◌<ℤ◌, is_lt, Ordering, Less}
+use Rattle.std.proofs.Common.{◌≡◌, ℤ, List, [], ◌∷◌, ◌++◌, map, inl, true, refl, sym, ◌∙◌, ap, subst, Some, cond, ◌<ℤ◌, is_lt, Ordering, Less}
 use Rattle.std.proofs.lemmas.Cmp.{int_cmp_total, on_total, then_total, tied_itself}
 use Rattle.std.proofs.lemmas.Bool.{and_from, and_parts}
 use Rattle.ics_file.specs.File.{FileSaid}
@@ -19,43 +19,18 @@ use Rattle.ics_listing.specs.WindowMeeting.{is_met}
 use Rattle.ics_series.specs.Occurs.{Occurs}
 use Rattle.ics_listing.specs.Rising.{IsBefore, Rises}
 use Rattle.ics_listing.proofs.BeginsLemmas.{over}
-use Rattle.ics_listing.proofs.ListingLemmas.{listing-filter, before-in, rises-on, in-append, in-append_left, in-append_right}
+use Rattle.ics_listing.proofs.ListingLemmas.{listing-filter, before-in, rises-on, in-append_right}
 use Rattle.ics_series.proofs.VersionLemmas.{in-map, map-in}
-use Rattle.ics_series.proofs.NearDayLemmas.{is_met-meets, meets-is_met}
+use Rattle.ics_starts.proofs.MeetsLemmas.{is_met-meets, meets-is_met}
 
 pub on_day_total : IsTotalOrder on_day_cmp
 on_day_total = on_total day_rank_of (then_total (on_total (λ r. r.day) int_cmp_total) (on_total (λ r. r.key) rank_total))
 
--- Two listings, of which each of the first comes before each of the second.
-module _ {A : Type 0} (R : A → A → Ordering) where
-  pub none-listed : {P : A → Type 0} → ((x : A) → P x → ⊥) → IsListing R P []
-  none-listed none = record { rises = tt; exact = λ x. (λ m. absurd m, λ p. absurd (none x p)) }
-
-  before-append : (x : A) (xs ys : List A) → IsBefore R x xs → ((y : A) → IsIn y ys → R x y ≡ Less) → IsBefore R x (xs ++ ys)
-  before-append x [] [] h f = tt
-  before-append x [] (y ∷ ys) h f = (f y (inl refl), before-append x [] ys tt (λ z m. f z (inr m)))
-  before-append x (z ∷ xs) ys h f = (h.0, before-append x xs ys h.1 f)
-
-  pub rises-append : (xs ys : List A) → Rises R xs → Rises R ys → ((x y : A) → IsIn x xs → IsIn y ys → R x y ≡ Less) → Rises R (xs ++ ys)
-  rises-append [] ys h k f = k
-  rises-append (x ∷ xs) ys h k f = (before-append x xs ys h.0 (λ y m. f x y (inl refl) m), rises-append xs ys h.1 k (λ z y m n. f z y (inr m) n))
-
-  pub joined : {P Q : A → Type 0} (S : A → Type 0) {xs ys : List A} → IsListing R P xs → IsListing R Q ys → ((x y : A) → P x → Q y → R x y ≡ Less)
-      → ((x : A) → P x ⊎ Q x → S x) → ((x : A) → S x → P x ⊎ Q x) → IsListing R S (xs ++ ys)
-  joined S {xs = xs} {ys = ys} h k f to from = record {
-    rises = rises-append xs ys h.rises k.rises (λ x y m n. f x y ((h.exact x).0 m) ((k.exact y).0 n));
-    exact = λ x. (
-      λ m. to x (⊎_elim (λ n. inl ((h.exact x).0 n)) (λ n. inr ((k.exact x).0 n)) (in-append x xs ys m)),
-      λ s. ⊎_elim (λ p. in-append_left x xs ys ((h.exact x).1 p)) (λ q. in-append_right x xs ys ((k.exact x).1 q)) (from x s),
-    );
-  }
-
 -- Under one day the order is that of the occurrences.
-by-key : (day : ℤ) (x y : Entry) → on_day_cmp (on_day day x) (on_day day y) ≡ entry_cmp x y
-by-key day x y = ap (λ c. ordering_then c (entry_cmp x y)) (tied_itself int_cmp_total day)
-
 rises-under : (day : ℤ) (xs : List Entry) → Rises entry_cmp xs → Rises on_day_cmp (map (on_day day) xs)
-rises-under day xs h = (rises-on (on_day day) on_day_cmp xs).1 (subst (λ (R : Entry → Entry → Ordering). Rises R xs) (λ i x y. sym (by-key day x y) i) h)
+rises-under day xs h =
+    (rises-on (on_day day) on_day_cmp xs).1 (subst (λ (R : Entry → Entry → Ordering). Rises R xs)
+    (λ i x y. ordering_then (sym (tied_itself int_cmp_total day) i) (entry_cmp x y)) h)
 
 -- an earlier day goes first
 pub day-first : (p q : OnDay) → p.day <ℤ q.day → on_day_cmp p q ≡ Less

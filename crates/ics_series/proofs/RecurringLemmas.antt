@@ -9,30 +9,31 @@ use Rattle.ics_event.specs.Event.{Time}
 use Rattle.ics_zone.proofs.Cases.{true_int_le, int_le_true}
 use Rattle.ics_series.specs.declared.version.Version.{Version}
 use Rattle.ics_listing.specs.declared.window.Window.{Window}
-use Rattle.ics_series.specs.declared.zones.FileZones.{FileZones}
+use Rattle.ics_starts.specs.declared.zones.FileZones.{FileZones}
 use Rattle.ics_listing.specs.FileClocks.{Clock, Clocks}
-use Rattle.ics_series.specs.Clocks.{instant}
+use Rattle.ics_starts.specs.Clocks.{instant}
 use Rattle.ics_listing.specs.Entry.{Entry, Rank, entry_cmp}
 use Rattle.ics_listing.specs.Listing.{IsIn, IsListing}
-use Rattle.ics_series.specs.Inner.Masters.{IsOfVersion, IsSince, Recurs}
+use Rattle.ics_series.specs.Inner.Masters.{IsBehind, IsOfVersion, IsSince, Recurs}
 use Rattle.ics_listing.specs.After.{is_after}
-use Rattle.ics_series.specs.Occurs.{IsOf}
+use Rattle.ics_starts.specs.Instances.{IsOf}
 use Rattle.ics_series.specs.Overridden.{is_kept}
 use Rattle.ics_series.specs.PlacedEvents.{Placed, clocks_at}
-use Rattle.ics_series.specs.SeriesStarts.{given_of, IsSeriesMet}
-use Rattle.ics_series.specs.Singles.{is_single}
+use Rattle.ics_starts.specs.SeriesStarts.{given_of, IsSeriesMet}
+use Rattle.ics_starts.specs.SingleEvents.{is_single}
 use Rattle.ics_series.specs.Spots.{event_at}
 use Rattle.ics_listing.specs.StartTimes.{time_of, IsNotAfter}
-use Rattle.ics_series.specs.Starts.{GivesStart}
+use Rattle.ics_starts.specs.Starts.{GivesStart}
 use Rattle.ics_series.specs.Versions.{label_of, seen, AreChosen, Label}
-use Rattle.ics_series.specs.FileZones.{clocks_in}
-use Rattle.ics_series.proofs.SeriesLemmas.{series-listing as listing-by, put-has}
-use Rattle.ics_series.specs.Meets.{Meets, IsToCome}
+use Rattle.ics_starts.specs.FileZones.{clocks_in}
+use Rattle.ics_starts.proofs.SeriesLemmas.{series-listing as listing-by, put-has}
+use Rattle.ics_starts.specs.MeetsWindow.{Meets}
+use Rattle.ics_series.specs.Meets.{IsToCome}
 use Rattle.ics_listing.proofs.Cases.{some-same}
 use Rattle.ics_series.proofs.VersionLemmas.{in-map, placed-event, IsGiven}
-use Rattle.ics_series.proofs.StartSourceLemmas.{gives-value, same-given}
+use Rattle.ics_starts.proofs.StartSourceLemmas.{gives-value, same-given}
 use Rattle.ics_listing.proofs.StartOrderLemmas.{rdate-time}
-use Rattle.ics_series.proofs.InstantLemmas.{late}
+use Rattle.ics_starts.proofs.InstantLemmas.{late}
 use Rattle.ics_series.proofs.ToComeLemmas.{to-come}
 use Rattle.ics_listing.specs.WindowBounds.{occurrence_first}
 use Rattle.std.proofs.lemmas.Cmp.{tied_itself}
@@ -40,13 +41,13 @@ use Rattle.ics_event.specs.Event.{Rdate}
 use Rattle.ics_listing.specs.declared.start.StartSource.{StartSource}
 use Rattle.ics_listing.specs.declared.start.Start.{Start}
 use Rattle.ics_listing.specs.StartOrder.{moment_cmp, source_cmp, HasStart}
-use Rattle.ics_series.specs.Found.{start_by, AreStartsSince, IsStart}
+use Rattle.ics_starts.specs.Found.{start_by, AreStartsSince, IsStart}
 use Rattle.ics_listing.specs.Merged.{put}
 use Rattle.ics_listing.specs.Inner.MergedLaws.{rises-union}
 use Rattle.ics_listing.specs.Rising.{Rises}
 use Rattle.ics_listing.proofs.FirstLemmas.{moment_total, source-order, source_total}
 use Rattle.ics_listing.proofs.ListingLemmas.{before-in, relisted}
-use Rattle.ics_series.proofs.RawLemmas.{giving}
+use Rattle.ics_starts.proofs.RawLemmas.{giving}
 use Rattle.ics_listing.proofs.UnionLemmas.{itself-put, union-in}
 
 -- The starts of an event have a list, which has of those at one instant the first.
@@ -174,6 +175,13 @@ module _ {files : List FileSaid} {display : Clock} {label : Label} (r : Recurs f
       let same : h.by.event ≡ r.event = some-same h.by.event r.event (sym h.by.stands ∙ r.stands) in
       let of : IsOf by_file r.event o = rw same at h.of in
       ((of, h.meets), int_le_true since o.start (sym (begun o of h.meets.begun) ∙ h.later))
+
+  -- those that begin before the window's end come after the key from the instant on
+  pub behind : IsBehind files display w after label since
+  behind own o of b =
+      let same : own.event ≡ r.event = some-same own.event r.event (sym own.stands ∙ r.stands) in
+      let is : IsOf by_file r.event o = rw same at of in
+      (of-late zones r.event o read.is_event (subst (λ k. IsOf k r.event o) (sym read.clocks) is), begun o is b)
 
   -- what its series gives are the occurrences of its event
   pub series-listing : {list : List Entry} → IsListing entry_cmp (IsSeriesMet (clocks_in zones) r.event w since) list →

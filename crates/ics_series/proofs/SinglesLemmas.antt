@@ -15,38 +15,40 @@ use Rattle.ics_event.specs.Event.{Rdate}
 use Rattle.ics_values.specs.declared.time.Rdate.TheVariants.{At}
 use Rattle.ics_event.specs.Event.{Time}
 use Rattle.ics_fields.specs.Locals.{local_seconds}
-use Rattle.ics_series.specs.declared.single.Single.{Single}
+use Rattle.ics_starts.specs.declared.single.Single.{Single}
 use Rattle.ics_listing.specs.declared.start.StartSource.{StartSource}
 use Rattle.ics_listing.specs.declared.start.StartSource.TheVariants.{Kept, Listed}
 use Rattle.ics_series.specs.declared.version.Version.{Version}
 use Rattle.ics_listing.specs.declared.window.Window.{Window}
 use Rattle.ics_series.specs.Chosen.{overridden, subject_of, IsChosen}
 use Rattle.ics_listing.specs.FileClocks.{Clock, Clocks}
-use Rattle.ics_series.specs.Clocks.{instant}
+use Rattle.ics_starts.specs.Clocks.{instant}
 use Rattle.ics_listing.specs.Entry.{Entry, Rank, entry_cmp}
 use Rattle.ics_listing.specs.Inner.EntryLaws.{entry_total}
-use Rattle.ics_series.specs.Exclusions.{excludes}
-use Rattle.ics_series.specs.Finish.{finish}
+use Rattle.ics_starts.specs.Exclusions.{excludes}
+use Rattle.ics_starts.specs.Finish.{finish}
 use Rattle.ics_listing.specs.Listing.{IsListing, IsIn}
 use Rattle.ics_listing.specs.WindowMeeting.{is_met, is_under_way}
 use Rattle.ics_series.specs.Overridden.{is_kept}
 use Rattle.ics_listing.specs.After.{is_after, after_key}
-use Rattle.ics_series.specs.Occurs.{IsInstance}
+use Rattle.ics_starts.specs.Instances.{IsInstance}
 use Rattle.ics_series.specs.PlacedEvents.{Placed, clocks_at}
-use Rattle.ics_series.specs.Singles.{entry_first, is_single, is_to_come, single_at, single_entry, single_of, IsSingleToCome, begun_first}
+use Rattle.ics_starts.specs.SingleEvents.{entry_first, is_single, single_entry, begun_first}
+use Rattle.ics_series.specs.Singles.{is_to_come, single_at, single_of, IsSingleToCome}
 use Rattle.ics_listing.specs.StartTimes.{local_of, IsNotAfter}
-use Rattle.ics_series.specs.Starts.{recurrence_by, GivesStart}
+use Rattle.ics_starts.specs.Starts.{recurrence_by, GivesStart}
 use Rattle.ics_series.specs.Versions.{by_subject, is_named, is_override, label_of, seen, subject_cmp, AreChosen, Label}
 use Rattle.ics_series.specs.Spots.{event_at}
-use Rattle.ics_series.proofs.VersionLemmas.{given-subject, placed-event, entry_start_cmp, given_cmp, subject_from, IsGiven, IsGivenBy, map-in, same-entry}
+use Rattle.ics_series.proofs.VersionLemmas.{given-subject, placed-event, given_cmp, subject_from, IsGiven, IsGivenBy, map-in}
+use Rattle.ics_starts.proofs.EntryLemmas.{entry_start_cmp, same-entry}
 use Rattle.ics_series.proofs.VersionLemmas.{second-equal, subject_total}
-use Rattle.ics_series.proofs.NearDayLemmas.{is_met-meets, meets-is_met}
+use Rattle.ics_starts.proofs.MeetsLemmas.{is_met-meets, meets-is_met}
 use Rattle.ics_series.proofs.OverrideLemmas.{named-overrides}
 use Rattle.ics_listing.proofs.ListingLemmas.{filter_map-map, listing-filter, listing-picked, KeepsOrder, listing-sorted, map-climbs, Climbs, all-as}
 use Rattle.ics_listing.proofs.UnionLemmas.{from-one, listing-ordered, merged-is, one-from, IsInOne}
-use Rattle.ics_series.proofs.RawLemmas.{one-start}
+use Rattle.ics_starts.proofs.RawLemmas.{one-start}
 use Rattle.ics_series.proofs.ToComeLemmas.{after-come, come-listed, listed-given, to-come}
-use Rattle.ics_series.proofs.ZoneLemmas.{none-of, rule-none}
+use Rattle.ics_starts.proofs.ZoneLemmas.{none-of, rule-none}
 use Rattle.ics_listing.proofs.StartOrderLemmas.{own-time}
 use Rattle.std.specs.Cmp.{IsTotalOrder}
 use Rattle.std.specs.Cmp.Lexicographic.{slice_cmp}
@@ -60,7 +62,7 @@ use Rattle.ics_listing.specs.Rising.{Rises}
 use Rattle.ics_series.proofs.AfterLemmas.{listing-after_key}
 use Rattle.ics_series.proofs.RecurringLemmas.{recurring-master, version-come}
 use Rattle.ics_listing.specs.WindowBounds.{occurrence_first}
-use Rattle.ics_series.proofs.InstantLemmas.{late}
+use Rattle.ics_starts.proofs.InstantLemmas.{late}
 
 -- none of those that start once begins before the last two days of the year 0000
 pub singles-late : (singles : List Single) (o : Entry) → IsIn o (map single_entry singles) → occurrence_first ≤ℤ o.start
@@ -92,9 +94,6 @@ module _ (files : List FileSaid) (display : Clock) (w : Window) (after : Option 
   tied-given x y p q e = ap (given_cmp x) (sym (one-key x y p q e)) ∙ tied_itself given_total x
 
 -- DTSTART gives a start
-pub first-gives : (clocks : Clocks) (event : Event) → GivesStart clocks event (Kept (local_of event.start.stamp)) (At event.start)
-first-gives clocks event = (inl refl, sym (ap At (own-time event.start)))
-
 -- What a version gives of that.
 module _ (files : List FileSaid) (display : Clock) (w : Window) (overrides : List Label) (after : Option Rank) (label : Label) (event : Event)
     (stands : event_at files label.spot ≡ Some event) where
@@ -137,7 +136,7 @@ module _ (clocks : Clocks) (event : Event) (rule : event.rule ≡ None) (rdates 
   first-instance = record {
     source = Kept (local_of event.start.stamp);
     given = At event.start;
-    gives = first-gives clocks event;
+    gives = (inl refl, sym (ap At (own-time event.start)));
     starts = refl;
     earliest = λ other value g e. first-earliest other value g;
     ends = refl;
@@ -296,9 +295,6 @@ module _ (files : List FileSaid) (display : Clock) (w : Window) (after : Option 
         (ap is_single v.of.event ∙ v.by.recurs, version-come chosen h.0.stands v.by w after e v.of v.meets v.later))
         (λ n. each-come xs e h.1 n) m
 
-    part-come : (e : Entry) → InOne e (singles ∷ more) → kept e ≡ true → IsToCome files display w after e
-    part-come e m k = ⊎_elim (λ n. ((single.exact e).0 n).0) (λ n. (each-come more e are.each n).1 k) m
-
     come-kept : (e : Entry) → IsToCome files display w after e → kept e ≡ true
     come-kept e t = (listed-given files display w vs chosen e (come-listed files display w after e t)).1
 
@@ -355,7 +351,8 @@ module _ (files : List FileSaid) (display : Clock) (w : Window) (after : Option 
         let rise = all-as (IsOneOf files display w after (map seen vs)) (Rises entry_cmp) more (λ xs h. h.listing.rises) are.each in
         listing-filter kept entry_cmp (λ e. IsFromFirst entry_cmp e (singles ∷ more)) (IsToCome files display w after)
         (merged entry_cmp (singles ∷ more)) (merged-is entry_cmp entry_total (singles ∷ more) (single.rises, rise))
-        (λ e m k. part-come e (from-one entry_cmp entry_total e (singles ∷ more) m) k) (λ e t. (come-first e t, come-kept e t))
+        (λ e m k. ⊎_elim (λ n. ((single.exact e).0 n).0) (λ n. (each-come more e are.each n).1 k) (from-one entry_cmp entry_total e (singles ∷ more) m))
+        (λ e t. (come-first e t, come-kept e t))
 
   -- so where they were pushed behind the single events
   pub pushed-listing : {vs : List Version} (os : List Version) (singles : List Entry) {lists : List (List Entry)} → AreChosen files display vs →

@@ -9,7 +9,7 @@ use Rattle.std.proofs.Common.{None}
 use Rattle.std.proofs.Common.{refl, sym, ◌∙◌, ap, subst, arith, ◌≤ℤ◌, count_by, slice_get, nat_cmp, Ordering, Less, Equal, SFits, get_or, add-one}
 use Rattle.std.proofs.lemmas.Cmp.{on_total}
 use Rattle.std.proofs.lemmas.Int.{ints}
-use Rattle.std.proofs.lemmas.List.{append-nil, append_assoc, map-append, take-append-drop, take_all}
+use Rattle.std.proofs.lemmas.List.{append_assoc, map-append, take-append-drop, take_all}
 use Rattle.std.proofs.lemmas.List.Sums.{sum_by-cons}
 use Rattle.ics_file.specs.File.{FileSaid}
 use Rattle.ics_event.specs.declared.event.Event.{Event}
@@ -20,7 +20,7 @@ use Rattle.ics_listing.specs.Entry.{Rank, Entry, entry_cmp}
 use Rattle.ics_listing.specs.Listing.{IsIn, IsListing}
 use Rattle.ics_series.specs.Inner.Masters.{HasSources, IsSource, IsSourceOf, Recurs, HasLists, IsOfVersion, IsOneOf}
 use Rattle.ics_listing.specs.Rising.{Rises}
-use Rattle.ics_series.specs.Singles.{is_single}
+use Rattle.ics_starts.specs.SingleEvents.{is_single}
 use Rattle.ics_series.specs.Sources.{is_once, recurring, uid_cmp, AreSources, IsMasterOf}
 use Rattle.ics_listing.specs.FeedSources.{Recurring, Source}
 use Rattle.ics_listing.specs.FeedSources.Source.{Of, Once}
@@ -30,7 +30,7 @@ use Rattle.ics_listing.proofs.ListingLemmas.{front-before, split-at, all-as, all
 use Rattle.ics_series.proofs.OverrideLemmas.{chosen-rises}
 use Rattle.ics_series.proofs.RecurringLemmas.{own-clocks, own-event, own-subject, recurring-master, own}
 use Rattle.ics_series.proofs.VersionLemmas.{map-in, subject_total}
-use Rattle.ics_series.proofs.OnDayLemmas.{rises-append}
+use Rattle.ics_starts.proofs.JoinedLemmas.{rises-append}
 use Rattle.std.proofs.Math.Seq.{take-suc}
 use Rattle.std.proofs.lemmas.Option.{get_or_from_slice_get, slice_get_within}
 
@@ -43,9 +43,6 @@ taken vs i {v = v} there =
     ∙ (ap (map seen) (take-suc vs i v (slice_get_within vs i v there)) ∙ map-append seen (take i vs) (get_or vs i v ∷ [])))
 
 module _ {files : List FileSaid} {display : Clock} {w : Window} {after : Option Rank} where
-  pub lists-none : (before : List (List Entry)) → HasLists files display w after [] before before
-  lists-none before = record { more = []; are = record { each = tt; every = λ l m. absurd m }; behind = sym (append-nil before) }
-
   wider-list : (labels : List Label) (l : Label) (list : List Entry) →
       IsOneOf files display w after labels list → IsOneOf files display w after (labels ++ l ∷ []) list
   wider-list labels l list h = record { label = h.label; stands = in-append_left h.label labels (l ∷ []) h.stands; listing = h.listing }
@@ -151,9 +148,6 @@ none-once [] = refl
 none-once (m ∷ ms) = none-once ms
 
 module _ {files : List FileSaid} {display : Clock} {w : Window} {after : Option Rank} where
-  pub sources-none : (before : List Source) → HasSources files display w after [] before before
-  sources-none before = record { more = []; each = tt; rises = tt; behind = sym (append-nil before) }
-
   abbrev recurs-of : (label : Label) (m : Recurring) → IsSourceOf files display w after label m → Recurs files label
   recurs-of label m h = record { event = m.event; stands = h.stands; recurs = h.recurs }
 

@@ -1,5 +1,6 @@
 -- Which versions cannot meet a window, known from their spans, and near which days nothing is.
-use Rattle.std.proofs.Common.{◌≡◌, ℕ, ℤ, pos, ◌+ℤ◌, ◌-ℤ◌, ◌<ℤ◌, ◌≤ℤ◌, List, [], ◌∷◌, map, inl, inr, ⊎_elim, Option, Some, None, Bool, true, false, refl, sym}
+use Rattle.std.proofs.Common.{◌≡◌, ℕ, ℤ, pos, negsuc, ◌+ℤ◌, ◌-ℤ◌, ◌<ℤ◌, ◌≤ℤ◌, List, [], ◌∷◌, map, inl, inr, ⊎_elim, Option, Some, None, Bool, true, false}
+use Rattle.std.proofs.Common.{refl, sym}
 use Rattle.std.proofs.Common.{◌∙◌, ap, ◌+◌, ◌<◌, ◌++◌, length, drop, get_or, add-one, drop-cons}
 use Rattle.std.proofs.Common.{subst, arith, int_lt, int_le, slice_get, option_map, option_and_then, if◌then◌else◌, IsTrue, Ordering, ◌⊎◌}
 use Rattle.std.specs.Int.{int_max, int_min}
@@ -14,38 +15,43 @@ use Rattle.ics_event.specs.declared.event.Event.{Event}
 use Rattle.ics_fields.specs.Locals.{day_of_local, midnight}
 use Rattle.ics_zone.proofs.Cases.{int_le_false, less_or_not_z, true_int_le, true_int_lt}
 use Rattle.ics_zone.specs.Seconds.{IsNear}
-use Rattle.ics_series.specs.declared.series.Series.{Series}
+use Rattle.ics_starts.specs.declared.series.Series.{Series}
 use Rattle.ics_series.specs.declared.span.Span.{Span}
 use Rattle.ics_series.specs.declared.version.Version.{Version}
 use Rattle.ics_listing.specs.declared.window.Window.{Window}
 use Rattle.ics_series.specs.Chosen.{overridden, subject_of, IsChosen}
 use Rattle.ics_listing.specs.FileClocks.{Clock, Clocks}
-use Rattle.ics_series.specs.Clocks.{instant}
+use Rattle.ics_starts.specs.Clocks.{instant}
 use Rattle.ics_listing.specs.Entry.{entry_cmp, Entry, Rank}
 use Rattle.ics_series.specs.Laws.{HasVersion}
 use Rattle.ics_listing.specs.Listing.{IsIn, IsListing}
-use Rattle.ics_series.specs.FileZones.{clocks_in}
-use Rattle.ics_series.specs.Inner.Masters.{IsOfVersion, IsSourceOf, Recurs}
+use Rattle.ics_starts.specs.FileZones.{clocks_in}
+use Rattle.ics_series.specs.Inner.Masters.{IsBehind, IsOfVersion, IsSourceOf, Recurs}
 use Rattle.ics_listing.specs.WindowMeeting.{is_met}
-use Rattle.ics_series.specs.Meets.{IsListed, Meets}
+use Rattle.ics_series.specs.Meets.{IsListed}
+use Rattle.ics_starts.specs.MeetsWindow.{Meets}
 use Rattle.ics_listing.specs.Merged.{merged}
 use Rattle.ics_listing.specs.DayKeys.{first_near, last_near, IsNearDay}
 use Rattle.ics_series.specs.PlacedEvents.{Placed, IsPlaced, clocks_at}
 use Rattle.ics_listing.specs.Rising.{Rises}
-use Rattle.ics_series.specs.Singles.{begun_first, entry_first, is_single, single_at, single_of}
+use Rattle.ics_starts.specs.SingleEvents.{begun_first, entry_first, is_single}
+use Rattle.ics_series.specs.Singles.{single_at, single_of}
 use Rattle.ics_series.specs.Inner.SpanLaws.{AreThoseChosen}
 use Rattle.ics_series.specs.Inner.Spans.{always, can_meet, first_of, is_out, is_out_of, span_at, span_by, span_of, span_once, AreMovedOn, AreSpans}
-use Rattle.ics_series.specs.Inner.Spans.{AreSpansAfter, IsLater, IsMovedOn, IsRest, NoneMeets}
-use Rattle.ics_series.specs.SeriesFeed.{series_sources, source_of, IsSameSeries}
-use Rattle.ics_listing.specs.FeedSources.{Recurring, Source}
-use Rattle.ics_listing.specs.FeedSources.Source.{Of, Once}
+use Rattle.ics_series.specs.Inner.Spans.{floor_of, AreSpansAfter, IsLater, IsMovedOn, IsRest, IsStartedBy, NoneMeets}
+use Rattle.ics_listing.specs.After.{is_after}
+use Rattle.ics_listing.specs.WindowBounds.{occurrence_first}
+use Rattle.ics_starts.specs.SeriesFeed.{series_sources}
+use Rattle.ics_listing.specs.FeedSources.{Recurring}
+use Rattle.ics_listing.specs.FeedSources.Source.{Of}
 use Rattle.ics_series.specs.Spots.{event_at}
 use Rattle.ics_series.specs.Versions.{by_subject, label_of, placed_in, seen, AreChosen, Label}
 use Rattle.ics_series.proofs.AheadLemmas.{near-under, shown-first, shown-last, NoneBetween}
 use Rattle.ics_listing.proofs.Cases.{not-true}
 use Rattle.ics_listing.proofs.ListingLemmas.{contains-in, get-in, one-listing}
 use Rattle.ics_listing.proofs.NearLemmas.{day-under, day-within}
-use Rattle.ics_series.proofs.NearDayLemmas.{is_met-meets, meets-is_met}
+use Rattle.ics_starts.proofs.MeetsLemmas.{is_met-meets, meets-is_met}
+use Rattle.ics_series.proofs.MarkLemmas.{first_source}
 use Rattle.ics_series.proofs.RecurringLemmas.{recurring-master}
 use Rattle.ics_series.proofs.SinglesLemmas.{given-first}
 use Rattle.ics_series.proofs.ToComeLemmas.{listed-given}
@@ -170,32 +176,33 @@ module _ (outer w : Window) (late : w.to ≤ℤ outer.to) where
         (λ e. e) (cases_Bool (is_met w (entry_first clocks event r)))
 
     -- an event whose span cannot meet the window has nothing there
-    none-meets : NoneMeets clocks event w
-    none-meets = record { once = λ s r. out-met r; each = λ r. let no : true ≡ false = sym out-single ∙ r in absurd cc }
+    none-meets : (floor : Option ℤ) → NoneMeets clocks event w floor
+    none-meets floor = record { once = λ s r. out-met r; each = λ r. let no : true ≡ false = sym out-single ∙ r in absurd cc }
 
 -- spans as they were found are those of the versions, for windows that do not end later
-pub are-spans : (files : List FileSaid) (display : Clock) (outer w : Window) → w.to ≤ℤ outer.to → (labels : List Label) {spans : List Span}
-    → spans ≡ map (span_at files display outer) labels → AreSpans files display w labels spans
-are-spans files display outer w late labels {spans = spans} is k s l event at there stands out =
+pub are-spans : (files : List FileSaid) (display : Clock) (outer w : Window) → w.to ≤ℤ outer.to → (floor : Option ℤ) (labels : List Label) {spans : List Span}
+    → spans ≡ map (span_at files display outer) labels → AreSpans files display w floor labels spans
+are-spans files display outer w late floor labels {spans = spans} is k s l event at there stands out =
     let here : Some s ≡ Some (span_at files display outer l) =
     sym at ∙ (ap (λ xs. slice_get xs k) is
     ∙ (slice_get-map (span_at files display outer) labels k ∙ ap (option_map (span_at files display outer)) there)) in
     let same : s ≡ span_at files display outer l = ap (λ o. unwrap_or o s) here in
     none-meets outer w late (clocks_at files display l.spot.file) event
-    (ap (λ o. can_meet (span_of (clocks_at files display l.spot.file) outer o) w) (sym stands) ∙ (ap (λ x. can_meet x w) (sym same) ∙ out))
+    (ap (λ o. can_meet (span_of (clocks_at files display l.spot.file) outer o) w) (sym stands) ∙ (ap (λ x. can_meet x w) (sym same) ∙ out)) floor
 
 -- where there are no spans all is looked at
-pub no-spans : (files : List FileSaid) (display : Clock) (w : Window) (labels : List Label) {spans : List Span} → spans ≡ []
-    → AreSpans files display w labels spans
-no-spans files display w labels e k s l event at = let f : None ≡ Some s = ap (λ xs. slice_get xs k) (sym e) ∙ at in absurd cc
+pub no-spans : (files : List FileSaid) (display : Clock) (w : Window) (floor : Option ℤ) (labels : List Label) {spans : List Span} → spans ≡ []
+    → AreSpans files display w floor labels spans
+no-spans files display w floor labels e k s l event at = let f : None ≡ Some s = ap (λ xs. slice_get xs k) (sym e) ∙ at in absurd cc
 
 -- What the span at a place tells of the version there.
-module _ (files : List FileSaid) (display : Clock) (w : Window) (labels : List Label) (spans : List Span) (are : AreSpans files display w labels spans)
+module _ (files : List FileSaid) (display : Clock) (w : Window) {floor : Option ℤ} (labels : List Label) (spans : List Span)
+    (are : AreSpans files display w floor labels spans)
     (i : ℕ) {l : Label} (there : slice_get labels i ≡ Some l) (out : is_out spans i w ≡ true) where
-  out-at : (event : Event) → event_at files l.spot ≡ Some event → NoneMeets (clocks_at files display l.spot.file) event w
+  out-at : (event : Event) → event_at files l.spot ≡ Some event → NoneMeets (clocks_at files display l.spot.file) event w floor
   out-at event stands = by (slice_get spans i) refl
     where
-      by : (o : Option Span) → slice_get spans i ≡ o → NoneMeets (clocks_at files display l.spot.file) event w
+      by : (o : Option Span) → slice_get spans i ≡ o → NoneMeets (clocks_at files display l.spot.file) event w floor
       by None e = let no : false ≡ true = ap (λ o. is_out_of o w) (sym e) ∙ out in absurd cc
       by (Some s) e = are i s l event e there stands (not-true (can_meet s w) (ap (λ o. is_out_of o w) (sym e) ∙ out))
 
@@ -216,8 +223,9 @@ module _ (files : List FileSaid) (display : Clock) (w : Window) (labels : List L
           one false s = rw s refl
 
   -- nor has its event an occurrence there, where it recurs
-  pub out-version : (after : Option Rank) (o : Entry) → IsOfVersion files display w after l o → ⊥
-  out-version after o v = (out-at v.by.event v.by.stands).each v.by.recurs o v.of v.meets
+  pub out-version : (after : Option Rank) → ((o : Entry) → is_after after o ≡ true → IsStartedBy floor o) → (o : Entry)
+      → IsOfVersion files display w after l o → ⊥
+  out-version after above o v = (out-at v.by.event v.by.stands).each v.by.recurs o v.of v.meets (above o v.later)
 
 -- Where no span can meet a window nothing does.
 module _ (files : List FileSaid) (display : Clock) (vs : List Version) (chosen : AreChosen files display vs) (spans : List Span)
@@ -233,14 +241,16 @@ module _ (files : List FileSaid) (display : Clock) (vs : List Version) (chosen :
         slice_get-get_or (map seen vs) c.0 l c.1 ∙ ap Some c.2,
       )
 
-  pub none-of : (n : Window) → AreSpans files display n (map seen vs) spans → ((s : Span) → IsIn s spans → can_meet s n ≡ false) → (l : Label) (event : Event)
-      → IsIn l (map seen vs) → event_at files l.spot ≡ Some event → NoneMeets (clocks_at files display l.spot.file) event n
+  pub none-of : {floor : Option ℤ} (n : Window) → AreSpans files display n floor (map seen vs) spans
+      → ((s : Span) → IsIn s spans → can_meet s n ≡ false) → (l : Label) (event : Event)
+      → IsIn l (map seen vs) → event_at files l.spot ≡ Some event → NoneMeets (clocks_at files display l.spot.file) event n floor
   none-of n are none l event m stands =
       let k = span-there l m in are k.0 k.1 l event k.2 k.3 stands (none k.1 (get-in k.1 spans k.0 k.2))
 
-  pub none-out : (n : Window) → AreSpans files display n (map seen vs) spans → ((s : Span) → IsIn s spans → can_meet s n ≡ false) → (o : Entry)
-      → IsListed files display n o → ⊥
-  none-out n are none o listed =
+  pub none-out : {floor : Option ℤ} (n : Window) → AreSpans files display n floor (map seen vs) spans
+      → ((s : Span) → IsIn s spans → can_meet s n ≡ false) → (o : Entry)
+      → IsListed files display n o → IsStartedBy floor o → ⊥
+  none-out n are none o listed started =
       let g = (listed-given files display n vs chosen o listed).0 in
       let label = label_of files display g.by in
       let there : IsIn label (map seen vs) = rw chosen.are (map-in (label_of files display) g.by chosen.chosen ((chosen.listing.exact g.by).1 g.chosen)) in
@@ -252,35 +262,43 @@ module _ (files : List FileSaid) (display : Clock) (vs : List Version) (chosen :
       let no : true ≡ false = sym (meets-is_met n o g.is.1) ∙ (ap (is_met n) first ∙ out.once single (overridden clocks g.by.event)) in absurd cc)
       (λ recurs.
       let own = ap (option_map (instant clocks)) (recurring-master g.by.event recurs) in
-      out.each recurs o (rw own at g.is.0) g.is.1)
+      out.each recurs o (rw own at g.is.0) g.is.1 started)
       (cases_Bool (is_single g.by.event))
 
+-- what begins at the floor or later does so from the instant on with which a series begins
+low-start : (since : ℤ) (floor : Option ℤ) → since ≤ℤ unwrap_or floor (negsuc 9_223_372_036_854_775_807) → (o : Entry) → IsStartedBy floor o
+    → occurrence_first ≤ℤ o.start → since ≤ℤ o.start
+low-start since None low o started first = omega (arith, ints, low, first)
+low-start since (Some floor) low o started first = omega (arith, ints, low, started)
+
 -- Spans that are moved on.
-module _ (files : List FileSaid) (display : Clock) (w : Window) (labels : List Label) where
-  pub moved-none : {old new : List Span} → new ≡ old → AreMovedOn files display w labels old new
-  moved-none e = record { size = ap length e; still = λ n later are. subst (AreSpans files display n labels) (sym e) are }
-
-  pub moved-both : {first mid last : List Span} → AreMovedOn files display w labels first mid → AreMovedOn files display w labels mid last
-      → AreMovedOn files display w labels first last
-  moved-both a b = record { size = b.size ∙ a.size; still = λ n later are. b.still n later (a.still n later are) }
-
-  -- they are those of the window itself
-  pub moved-here : {old new : List Span} → AreMovedOn files display w labels old new → AreSpans files display w labels old → AreSpans files display w labels new
-  moved-here moved are = moved.still w (record { from = omega (arith, ints); same = refl }) are
-
+module _ (files : List FileSaid) (display : Clock) (w : Window) (floor : Option ℤ) (labels : List Label) where
   -- the span of a master that has nothing in the window
-  module _ (k : ℕ) {l : Label} (there : slice_get labels k ≡ Some l) (r : Recurs files l) {since : ℤ} where
-    none-later : {s : Span} → since ≤ℤ w.from → ((o : Entry) → IsOfVersion files display w None l o → ⊥)
+  module _ (k : ℕ) {l : Label} (there : slice_get labels k ≡ Some l) (r : Recurs files l) {after : Option Rank} {since : ℤ}
+      (behind : IsBehind files display w after l since) where
+    none-later : {s : Span} → since ≤ℤ unwrap_or floor (negsuc 9_223_372_036_854_775_807) → ((o : Entry) → IsOfVersion files display w after l o → ⊥)
         → IsRest (clocks_at files display l.spot.file) r.event w since s
-        → (n : Window) → IsLater w n → can_meet s n ≡ false → NoneMeets (clocks_at files display l.spot.file) r.event n
-    none-later {s = s} early none rest n later out = record {
+        → (n : Window) → IsLater w n → can_meet s n ≡ false → NoneMeets (clocks_at files display l.spot.file) r.event n floor
+    none-later {s = s} low none rest n later out = record {
       once = λ single. let no : true ≡ false = sym single ∙ r.recurs in absurd cc;
-      each = λ recurs o of meets. elim (less_or_not_z o.start w.to) [
-        | inl begun ↦ none o (record { by = r; of = of; meets = here o meets begun; later = refl })
+      each = λ recurs o of meets started. elim (less_or_not_z o.start w.to) [
+        | inl begun ↦
+            let come = behind r o of begun in
+            none o (record {
+              by = r;
+              of = of;
+              meets = here o meets begun;
+              later = come.1 ∙ true_int_le since o.start (low-start since floor low o started come.0);
+            })
         | inr end ↦ absurd (
-            let first = rest.first o of end (omega (arith, ints, early, w.ordered, end)) in
+            let first = rest.first o of end (low-start since floor low o started (omega (arith, ints, w.not_early, w.ordered, end))) in
             let start = meets.begun in
-            let most : n.to ≤ℤ s.first = cannot in
+            let most : n.to ≤ℤ s.first = elim (less_or_not_z s.first n.to) [
+              | inl less ↦ absurd (
+                  let yes = both-true n n (omega (arith, ints)) s less (omega (arith, ints, rest.last, n.ordered, n.not_late)) in
+                  let no : true ≡ false = sym yes ∙ out in cc)
+              | inr most ↦ most
+            ] in
             omega (arith, ints, first, start, most))
       ];
     }
@@ -292,19 +310,10 @@ module _ (files : List FileSaid) (display : Clock) (w : Window) (labels : List L
           started = λ t. let from = m.started (subst IsTrue later.same t) in omega (arith, ints, from, later.from);
         }
 
-        cannot : n.to ≤ℤ s.first
-        cannot = elim (less_or_not_z s.first n.to) [
-          | inl less ↦ absurd (
-              let yes = both-true n n (omega (arith, ints)) s less (omega (arith, ints, rest.last, n.ordered, n.not_late)) in
-              let no : true ≡ false = sym yes ∙ out in cc)
-          | inr most ↦ most
-        ]
-
-    moved-at : {after : Option Rank} {coming : List Entry} {old new : List Span} → (after ≡ None → since ≤ℤ w.from)
-        → IsListing entry_cmp (IsOfVersion files display w after l) coming
-        → IsMovedOn (clocks_at files display l.spot.file) r.event w since after coming old k new → AreMovedOn files display w labels old new
-    moved-at early listing (inl e) = moved-none e
-    moved-at {old = old} {new = new} early listing (inr put) = record {
+    moved-at : {coming : List Entry} {old new : List Span} → IsListing entry_cmp (IsOfVersion files display w after l) coming
+        → IsMovedOn (clocks_at files display l.spot.file) r.event w since floor coming old k new → AreMovedOn files display w floor labels old new
+    moved-at listing (inl e) = record { size = ap length e; still = λ n later are. subst (AreSpans files display n floor labels) (sym e) are }
+    moved-at {old = old} {new = new} listing (inr put) = record {
       size = put.put.0;
       still = λ n later are j s label event at place stands out. ⊎_elim
           (λ before. are j s label event before place stands out)
@@ -312,36 +321,26 @@ module _ (files : List FileSaid) (display : Clock) (w : Window) (labels : List L
           let label-is : label ≡ l = ap (λ o. unwrap_or o label) (sym place ∙ (ap (slice_get labels) mine.0 ∙ there)) in
           let event-is : event ≡ r.event =
           ap (λ o. unwrap_or o event) (sym stands ∙ (ap (λ (x : Label). event_at files x.spot) label-is ∙ r.stands)) in
-          let listed = rw put.none at listing in
           rw (label-is, event-is)
-          (none-later (early put.none) (λ o v. subst (IsIn o) put.empty ((listed.exact o).1 v)) put.rest n later
+          (none-later put.low (λ o v. subst (IsIn o) put.empty ((listing.exact o).1 v)) put.rest n later
           (ap (λ x. can_meet x n) (sym mine.1) ∙ out)))
           (put.put.1 j s at);
     }
 
--- the first of these sources
-abbrev pub first_source : Recurring → List Source → Recurring
-first_source d [] = d
-first_source d (Once ∷ sources) = d
-first_source d (Of m ∷ sources) = m
-
 -- So of a series, which is that of the version at a place.
-module _ (files : List FileSaid) (display : Clock) (w : Window) (vs : List Version) (k : ℕ) {v : Version} (there : slice_get vs k ≡ Some v) where
+module _ (files : List FileSaid) (display : Clock) (w : Window) (floor : Option ℤ) (vs : List Version) (k : ℕ) {v : Version}
+    (there : slice_get vs k ≡ Some v) where
   pub series-moved : {after : Option Rank} (s : Series) {m : Recurring} {coming : List Entry} {old new : List Span}
-      → IsSourceOf files display w after (seen v) m → series_sources s ≡ Of m ∷ [] → (after ≡ None → s.since ≤ℤ s.window.from)
+      → IsSourceOf files display w after (seen v) m → series_sources s ≡ Of m ∷ [] → IsBehind files display w after (seen v) s.since
       → IsListing entry_cmp (IsOfVersion files display w after (seen v)) coming
-      → IsMovedOn (clocks_in s.zones) s.event.now s.window s.since after coming old k new → AreMovedOn files display w (map seen vs) old new
-  series-moved {after = after} s {m = m} {coming = coming} {old = old} {new = new} is sources early listing moved =
+      → IsMovedOn (clocks_in s.zones) s.event.now s.window s.since floor coming old k new → AreMovedOn files display w floor (map seen vs) old new
+  series-moved {after = after} s {m = m} {coming = coming} {old = old} {new = new} is sources behind listing moved =
       let one : record { clocks = clocks_in s.zones; event = s.event.now; window = s.window; since = s.since } ≡ m = ap (first_source m) sources in
       let at = slice_get-map seen vs k ∙ ap (option_map seen) there in
-      let own = subst (λ (r : Recurring). IsMovedOn r.clocks r.event r.window r.since after coming old k new) one moved in
-      let soon = subst (λ (r : Recurring). after ≡ None → r.since ≤ℤ r.window.from) one early in
-      moved-at files display w (map seen vs) k at (record { event = m.event; stands = is.stands; recurs = is.recurs })
-      (rw is.window at soon) listing (rw (is.clocks, is.window) at own)
-
--- a series that was read on is of the same source
-pub same-sources : {a b : Series} → IsSameSeries a b → series_sources b ≡ series_sources a
-same-sources same = λ i. source_of (clocks_in (same.zones i)) ((same.event i).now) (same.window i) (same.since i)
+      let own = subst (λ (r : Recurring). IsMovedOn r.clocks r.event r.window r.since floor coming old k new) one moved in
+      let soon = subst (λ (r : Recurring). IsBehind files display w after (seen v) r.since) one behind in
+      moved-at files display w floor (map seen vs) k at (record { event = m.event; stands = is.stands; recurs = is.recurs }) soon listing
+      (rw (is.clocks, is.window) at own)
 
 -- The windows near days.
 pub near-later : {w m n : Window} {x y : ℤ} → IsNearDay w x m → IsNearDay w y n → x ≤ℤ y → IsLater m n
@@ -353,7 +352,7 @@ near-later {w = w} {x = x} {y = y} a b l = record {
 -- Spans moved on near a day are those near each later day.
 module _ (files : List FileSaid) (display : Clock) (w : Window) (vs : List Version) {day next : ℤ} {old new : List Span} (size : length old ≡ length vs)
     (are : AreSpansAfter files display w day (map seen vs) old) {m : Window} (near : IsNearDay w next m)
-    (moved : AreMovedOn files display m (map seen vs) old new) where
+    (moved : AreMovedOn files display m (floor_of w) (map seen vs) old new) where
   pub after-next : day <ℤ next → AreSpansAfter files display w next (map seen vs) new
   after-next on x n later h =
       moved.still n (near-later near h (omega (arith, ints, later))) (are x n (omega (arith, ints, later, on)) h)
@@ -434,6 +433,21 @@ module _ (w : Window) (spans : List Span) {day first reached next : ℤ} (low : 
       cannot-end : (s : Span) (n : Window) → s.last <ℤ n.from → can_meet s n ≡ false
       cannot-end s n l = grind (arith, ints, l)
 
+-- What meets a window begins at the floor of that or later, if there is one.
+meets-floor : (w : Window) (o : Entry) → Meets w o → IsStartedBy (floor_of w) o
+meets-floor w o met = by w.notstarted refl
+  where
+    by : (b : Bool) → w.notstarted ≡ b → IsStartedBy (if b then Some (w.from -ℤ pos 1) else None) o
+    by true t = let from = met.started t in omega (arith, ints, from)
+    by false f = tt
+
+-- spans as they were found near a day are those of what is listed
+pub spans-floor : (files : List FileSaid) (display : Clock) (w : Window) (floor : Option ℤ) (labels : List Label) (spans : List Span)
+    → AreSpans files display w None labels spans → AreSpans files display w floor labels spans
+spans-floor files display w floor labels spans are k s l event at there stands out =
+    let none = are k s l event at there stands out in
+    record { once = none.once; each = λ recurs o of meets started. none.each recurs o of meets tt }
+
 -- So nothing is shown under them.
 module _ (files : List FileSaid) (display : Clock) (near : (t : ℤ) → IsNear (display.offset t)) (w : Window) (vs : List Version)
     (chosen : AreChosen files display vs) (spans : List Span) (size : length spans ≡ length vs) where
@@ -445,5 +459,5 @@ module _ (files : List FileSaid) (display : Clock) (near : (t : ℤ) → IsNear 
       (λ early.
       let n = near-window w p.day (shown-first files display near w p shown) (shown-last files display near w p shown) in
       absurd (none-out files display vs chosen spans size n.0 (are p.day n.0 later n.1) (λ s m. none p.day later early s m n.0 n.1) p.entry
-      (shown.listed.0, near-under files display near w n.0 n.1 p (shown, refl))))
+      (shown.listed.0, near-under files display near w n.0 n.1 p (shown, refl)) (meets-floor w p.entry shown.listed.1)))
       (λ l. l) (less_or_not_z p.day next)

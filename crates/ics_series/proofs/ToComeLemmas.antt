@@ -9,9 +9,10 @@ use Rattle.ics_series.specs.declared.version.Version.{Version}
 use Rattle.ics_listing.specs.declared.window.Window.{Window}
 use Rattle.ics_series.specs.Chosen.{IsOverridden}
 use Rattle.ics_listing.specs.FileClocks.{Clock}
-use Rattle.ics_series.specs.Clocks.{instant}
+use Rattle.ics_starts.specs.Clocks.{instant}
 use Rattle.ics_listing.specs.Entry.{Entry, Rank, rank_cmp, rank_of}
-use Rattle.ics_series.specs.Meets.{Meets, IsListed, IsToCome}
+use Rattle.ics_starts.specs.MeetsWindow.{Meets}
+use Rattle.ics_series.specs.Meets.{IsListed, IsToCome}
 use Rattle.ics_series.specs.Overridden.{is_kept}
 use Rattle.ics_listing.specs.After.{is_after}
 use Rattle.ics_series.specs.Occurs.{Occurs, IsOfMaster, IsOfOverride}

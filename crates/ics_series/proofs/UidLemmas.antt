@@ -11,13 +11,13 @@ use Rattle.ics_series.specs.declared.part.Part.{Part}
 use Rattle.ics_series.specs.declared.part.Part.TheVariants.{Singles, Series}
 use Rattle.ics_series.specs.AgendaParts.{part_coming, part_sources}
 use Rattle.ics_listing.specs.Rising.{Rises}
-use Rattle.ics_series.specs.SeriesFeed.{series_left}
+use Rattle.ics_starts.specs.SeriesFeed.{series_left}
 use Rattle.ics_series.specs.Sources.{uid_cmp}
 use Rattle.ics_listing.specs.FeedSources.{Recurring, Source}
 use Rattle.ics_listing.specs.FeedSources.Source.{Of, Once}
-use Rattle.ics_series.specs.FileZones.{clocks_in}
+use Rattle.ics_starts.specs.FileZones.{clocks_in}
 use Rattle.ics_listing.proofs.ListingLemmas.{rises-by_place}
-use Rattle.ics_series.proofs.SeriesLemmas.{given-own}
+use Rattle.ics_starts.proofs.SeriesLemmas.{given-own}
 
 -- The feeds of the masters that recur, each of one UID, in the order of their UIDs.
 same-master : {a b : Recurring} {xs ys : List Source} → Of a ∷ xs ≡ Of b ∷ ys → a ≡ b

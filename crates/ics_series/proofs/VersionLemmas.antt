@@ -18,7 +18,7 @@ use Rattle.ics_file.specs.declared.events.FileEvents.{FileEvents}
 use Rattle.ics_zone.specs.ZoneSaid.{zone_said}
 use Rattle.ics_series.specs.Chosen.{subject_of, IsChosen, SubjectSeen, overridden, subject_by}
 use Rattle.ics_listing.specs.FileClocks.{Clock, Clocks}
-use Rattle.ics_series.specs.Clocks.{clocks_of}
+use Rattle.ics_starts.specs.Clocks.{clocks_of}
 use Rattle.ics_listing.specs.Listing.{IsIn, IsListing}
 use Rattle.ics_series.specs.PlacedEvents.{Placed, IsPlaced, placed_cmp, clocks_at, zones_of}
 use Rattle.ics_series.specs.Versions.{by_subject, subject_cmp, version_cmp, lasts, is_followed, label_by, label_of, placed_from, placed_in, Label, seen}
@@ -33,9 +33,11 @@ use Rattle.ics_series.specs.declared.version.Version.{Version}
 use Rattle.ics_series.specs.Laws.{HasVersion}
 use Rattle.ics_listing.specs.Entry.{Entry}
 use Rattle.ics_listing.specs.declared.window.Window.{Window}
-use Rattle.ics_series.specs.Meets.{Meets}
-use Rattle.ics_series.specs.Occurs.{IsMoved, IsOf}
+use Rattle.ics_starts.specs.MeetsWindow.{Meets}
+use Rattle.ics_series.specs.Occurs.{IsMoved}
+use Rattle.ics_starts.specs.Instances.{IsOf}
 use Rattle.ics_series.specs.Spots.{event_at}
+use Rattle.ics_starts.proofs.EntryLemmas.{entry_start_cmp}
 
 -- The list of a folder's events holds each that stands there.
 -- A file's events, of which the first stands at a place.
@@ -114,9 +116,6 @@ pub one-chosen : {files : List FileSaid} {display : Clock} {p q : Placed} → Is
 one-chosen {files = files} {p = p} {q = q} h k u =
     same-placed files p q h.placed k.placed
     (tied-by p q (h.greatest q k.placed (sym u)) (k.greatest p h.placed u))
-
-pub same-entry : (o q : Entry) → o.start ≡ q.start → o.finish ≡ q.finish → o.recurrence ≡ q.recurrence → o.event ≡ q.event → o ≡ q
-same-entry o q a b c d = λ i. record { start = a i; finish = b i; recurrence = c i; event = d i }
 
 module _ (files : List FileEvents) (display : Clock) where
   abbrev said : List FileSaid
@@ -352,10 +351,6 @@ pub record IsGiven (files : List FileSaid) (display : Clock) (w : Window) (o : E
 -- the subject of what gave an occurrence
 abbrev pub subject_from : Entry → SubjectSeen
 subject_from o = record { uid = o.event.uid; recurrence = option_map (λ time. o.recurrence) o.event.recurrence }
-
--- by start
-abbrev pub entry_start_cmp : Entry → Entry → Ordering
-entry_start_cmp = on (λ e. e.start) int_cmp
 
 -- by subject, then by start
 abbrev pub given_cmp : Entry → Entry → Ordering

@@ -16,7 +16,7 @@ use Rattle.ics_file.specs.declared.events.FileEvents.{FileEvents}
 use Rattle.ics_event.specs.Event.{Time}
 use Rattle.ics_series.specs.declared.version.Version.{Version}
 use Rattle.ics_series.specs.Chosen.{IsChosen, IsMaster}
-use Rattle.ics_series.specs.Clocks.{clock_by, clocks_of, display_clock, instant}
+use Rattle.ics_starts.specs.Clocks.{clock_by, clocks_of, display_clock, instant}
 use Rattle.ics_listing.specs.FileClocks.{Clock, Clocks}
 use Rattle.ics_listing.specs.Entry.{entry_cmp, rank_of, Entry}
 use Rattle.ics_listing.specs.Listing.{IsIn, IsListing}
@@ -29,20 +29,20 @@ use Rattle.ics_series.specs.Inner.Masters.{HasLists, IsOfVersion, Recurs}
 use Rattle.ics_series.specs.Meets.{IsListed}
 use Rattle.ics_listing.specs.Merged.{merged}
 use Rattle.ics_series.specs.Overridden.{is_kept}
-use Rattle.ics_series.specs.Singles.{is_single}
+use Rattle.ics_starts.specs.SingleEvents.{is_single}
 use Rattle.ics_series.specs.Spots.{event_at}
 use Rattle.ics_listing.specs.declared.window.Window.{Window}
-use Rattle.ics_series.specs.declared.zones.FileZones.{FileZones}
+use Rattle.ics_starts.specs.declared.zones.FileZones.{FileZones}
 use Rattle.ics_series.specs.Inner.Whole.{AreRead, AreReadIn, IsReadEvent}
 use Rattle.ics_listing.proofs.Cases.{below-or-last, mapped-some, some-same}
-use Rattle.ics_series.proofs.InstantLemmas.{near-at, near-display, near-utc, written, IsNearClock}
+use Rattle.ics_starts.proofs.InstantLemmas.{near-at, near-display, near-utc, written, IsNearClock}
 use Rattle.ics_listing.proofs.ListingLemmas.{get-in, listing-filter}
 use Rattle.ics_series.proofs.OverrideLemmas.{any_version}
 use Rattle.ics_series.proofs.RecurringLemmas.{not-single, own, own-event, whole-version, IsRead}
 use Rattle.ics_series.proofs.SinglesLemmas.{parts-listing, singles-whole}
-use Rattle.ics_series.proofs.SourceLemmas.{lists-none, versions-all, versions-more, versions-skip}
+use Rattle.ics_series.proofs.SourceLemmas.{versions-all, versions-more, versions-skip}
 use Rattle.ics_series.proofs.VersionLemmas.{in-map, map-in, placed-event}
-use Rattle.ics_series.proofs.StartSourceLemmas.{gives-value}
+use Rattle.ics_starts.proofs.StartSourceLemmas.{gives-value}
 use Rattle.ics_listing.proofs.StartOrderLemmas.{rdate-time}
 
 -- the events of one file more
@@ -150,7 +150,7 @@ module _ (files : List FileEvents) (display : Display) {vs : List Version} (chos
       (cases_Bool (is_single event))
 
   lists-to : (n : ℕ) → n ≤ length vs → HasListsTo n
-  lists-to zero l = ([], lists-none [])
+  lists-to zero l = ([], record { more = []; are = record { each = tt; every = λ l m. absurd m }; behind = refl })
   lists-to (suc n) l =
       subst HasListsTo (add-one n) (list-more n (slice_get-get_or vs n any_version (omega arith)) (lists-to n (omega arith)))
 

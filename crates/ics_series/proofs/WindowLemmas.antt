@@ -8,11 +8,12 @@ use Rattle.ics_listing.specs.declared.window.Window.{Window}
 use Rattle.ics_listing.specs.FileClocks.{Clock}
 use Rattle.ics_listing.specs.Entry.{Entry, entry_cmp}
 use Rattle.ics_listing.specs.Listing.{IsIn, IsListing}
-use Rattle.ics_series.specs.Meets.{IsListed, Meets}
+use Rattle.ics_series.specs.Meets.{IsListed}
+use Rattle.ics_starts.specs.MeetsWindow.{Meets}
 use Rattle.ics_series.specs.Occurs.{Occurs}
 use Rattle.ics_series.specs.WindowLaws.{IsJoined, IsWithin}
 use Rattle.ics_series.proofs.NearDayLemmas.{lasts-from, occurs-forward}
-use Rattle.ics_series.proofs.OnDayLemmas.{joined as joined-listing}
+use Rattle.ics_starts.proofs.JoinedLemmas.{joined as joined-listing}
 
 module _ (files : List FileSaid) (display : Clock) where
   starting : (w : Window) (o : Entry) → Occurs files display o → w.from ≤ℤ o.start → o.start <ℤ w.to → IsListed files display w o

@@ -4,8 +4,9 @@ use Rattle.std.specs.Vec.Iter.{into_iter_items}
 use Rattle.ics_series.specs.declared.part.Part.{Part}
 use Rattle.ics_series.specs.declared.part.Part.TheVariants.{Singles, Series}
 use Rattle.ics_listing.specs.Entry.{Entry}
-use Rattle.ics_series.specs.SeriesFeed.{series_left, series_near, series_near-prop, series_of, series_sources}
-use Rattle.ics_series.specs.Singles.{is_single, single-prop, single_entry}
+use Rattle.ics_starts.specs.SeriesFeed.{series_left, series_near, series_near-prop, series_of, series_sources}
+use Rattle.ics_starts.specs.SingleEvents.{is_single, single_entry}
+use Rattle.ics_series.specs.Singles.{single-prop}
 use Rattle.ics_listing.specs.FeedSources.{Source}
 use Rattle.ics_listing.specs.FeedSources.Source.{Once}
 

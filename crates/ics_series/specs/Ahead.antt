@@ -6,7 +6,7 @@ use Rattle.ics_series.specs.declared.days.Days.{Days}
 use Rattle.ics_listing.specs.declared.occurrence.Occurrence.{Occurrence}
 use Rattle.ics_listing.specs.declared.window.Window.{Window}
 use Rattle.ics_listing.specs.FileClocks.{Clock}
-use Rattle.ics_series.specs.Clocks.{display_clock}
+use Rattle.ics_starts.specs.Clocks.{display_clock}
 use Rattle.ics_series.specs.DaySteps.{scope_in, Scope}
 use Rattle.ics_series.specs.OnDays.{is_on, IsOnDay}
 use Rattle.ics_listing.specs.DayKeys.{on_day, on_day_cmp, OnDay}

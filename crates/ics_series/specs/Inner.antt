@@ -2,8 +2,6 @@
 pub mod Beginnings
 pub mod Marks
 pub mod Masters
-pub mod Quiet
-pub mod RuleStartLaws
 pub mod SpanLaws
 pub mod Spans
 pub mod Whole

@@ -1,14 +1,15 @@
 -- The days under which an occurrence is shown (the program's own form), and the listing of a window under each day.
 use Rattle.std.specs.Prelude.{ℤ, pos, ◌-ℤ◌, ◌&&◌, Bool, int_le, if◌then◌else◌, ◌≡◌, true, List, ◌∷◌, Option, Some, None, ◌≤ℤ◌, ◌||◌, int_lt, ◌++◌}
 use Rattle.std.specs.Int.{int_max, int_min}
-use Rattle.std.specs.Ordering.{int_eq, on}
+use Rattle.std.specs.Ordering.{int_eq}
 use Rattle.ics_fields.specs.Locals.{day_of_local}
 use Rattle.ics_file.specs.File.{FileSaid}
 use Rattle.ics_listing.specs.declared.window.Window.{Window}
 use Rattle.ics_listing.specs.FileClocks.{Clock}
-use Rattle.ics_series.specs.Clocks.{local_at}
+use Rattle.ics_starts.specs.Clocks.{local_at}
 use Rattle.ics_listing.specs.Entry.{Entry, Rank}
 use Rattle.ics_series.specs.Meets.{IsListed}
+use Rattle.ics_starts.specs.MeetsWindow.{Meets}
 use Rattle.ics_listing.specs.After.{is_after}
 use Rattle.ics_listing.specs.Listing.{IsListing}
 use Rattle.ics_listing.specs.DayKeys.{DayRank, OnDay, day_rank_of, on_day_cmp, is_day_after, after_day_key, first_near}
@@ -38,10 +39,12 @@ pub record IsOnDay (files : List FileSaid) (display : Clock) (w : Window) (p : O
   pub listed : IsListed files display w p.entry
   pub on : is_on display w p.entry p.day ≡ true
 
--- To come after the key of a day is what stands under later days than this one, and under this one what comes after the key.
-pub record Begins (w : Window) (after : Option DayRank) (day : ℤ) (key : Option Rank) : Type 0 where
+-- Of what is shown in a window, what comes after the key of a day is what stands under later days than this one, and under this one what comes
+-- after the key.
+pub record Begins (clock : Clock) (w : Window) (after : Option DayRank) (day : ℤ) (key : Option Rank) : Type 0 where
   pub low : first_near w ≤ℤ day
-  pub behind : (p : OnDay) → first_near w ≤ℤ p.day → is_day_after after p ≡ (int_lt day p.day || (int_eq p.day day && is_after key p.entry))
+  pub behind : (p : OnDay) → Meets w p.entry → is_on clock w p.entry p.day ≡ true
+      → is_day_after after p ≡ (int_lt day p.day || (int_eq p.day day && is_after key p.entry))
 
 -- a listing begins on the day of the key or later, and on that day behind the key itself
 abbrev pub IsBehindKey : Option DayRank → ℤ → Option Rank → Type 0

@@ -6,7 +6,7 @@ use Rattle.ics_file.specs.File.{FileSaid}
 use Rattle.ics_event.specs.declared.event.Event.{Event}
 use Rattle.ics_zone.specs.ZoneSaid.{ZoneSaid}
 use Rattle.ics_listing.specs.FileClocks.{Clock, Clocks}
-use Rattle.ics_series.specs.Clocks.{clocks_of}
+use Rattle.ics_starts.specs.Clocks.{clocks_of}
 
 -- an event, the number of its file and its place in the file
 pub record Placed : Type 0 where

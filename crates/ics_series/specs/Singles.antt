@@ -1,18 +1,14 @@
 -- The events of a folder that start once, and what they give: overrides, and masters without RRULE, RDATE and EXDATE
 -- (RFC 5545, sections 3.6.1 and 3.8.4.4).
-use Rattle.std.specs.Prelude.{◌≡◌, ◌==◌, ◌&&◌, ◌||◌, ℤ, int_lt, Bool, true, List, length, Option, Some, None, is_none, is_some, if◌then◌else◌}
+use Rattle.std.specs.Prelude.{◌≡◌, ◌&&◌, ℤ, Bool, true, List, Option, Some, None, if◌then◌else◌}
 use Rattle.std.specs.List.{AllByRecursion, AllByRecursion-prop}
-use Rattle.std.specs.Option.{option_and_then, unwrap_or}
+use Rattle.std.specs.Option.{option_and_then}
 use Rattle.std.proofs.Props.{props}
 use Rattle.ics_file.specs.File.{FileSaid}
 use Rattle.ics_event.specs.declared.event.Event.{Event}
-use Rattle.ics_values.specs.declared.time.Rdate.TheVariants.{At}
-use Rattle.ics_series.specs.declared.single.Single.{Single}
 use Rattle.ics_listing.specs.declared.window.Window.{Window}
 use Rattle.ics_listing.specs.FileClocks.{Clock, Clocks}
-use Rattle.ics_series.specs.Clocks.{instant}
 use Rattle.ics_listing.specs.Entry.{Entry, Rank}
-use Rattle.ics_series.specs.Finish.{finish}
 use Rattle.ics_listing.specs.WindowMeeting.{is_met}
 use Rattle.ics_series.specs.Meets.{IsToCome}
 use Rattle.ics_series.specs.Overridden.{is_kept}
@@ -20,12 +16,7 @@ use Rattle.ics_listing.specs.After.{is_after}
 use Rattle.ics_series.specs.PlacedEvents.{clocks_at}
 use Rattle.ics_series.specs.Spots.{event_at}
 use Rattle.ics_series.specs.Versions.{Label}
-use Rattle.ics_series.specs.FileZones.{clocks_in}
-
--- an override starts at its own DTSTART alone, whatever its RRULE, RDATE and EXDATE say, and so does a master that has none of these
-abbrev pub is_single : Event → Bool
-is_single event =
-    is_some event.recurrence || ((is_none event.rule && length event.rdates == 0) && length event.exdates == 0)
+use Rattle.ics_starts.specs.SingleEvents.{is_single, entry_first}
 
 -- the events of these occurrences start once
 abbrev pub AreSingle : List Entry → Type 0
@@ -40,29 +31,6 @@ AreSingle-prop list = AllByRecursion-prop (λ o. is_single o.event ≡ true) sin
 -- the occurrences to come whose events start once
 abbrev pub IsSingleToCome : List FileSaid → Clock → Window → Option Rank → Entry → Type 0
 IsSingleToCome files display w after o = IsToCome files display w after o × (is_single o.event ≡ true)
-
--- The occurrence of an event at its DTSTART. It is identified by the instance that it overrides, or else by its start.
-abbrev pub entry_first : Clocks → Event → Option ℤ → Entry
-entry_first clocks event recurrence = record {
-  start = instant clocks event.start;
-  finish = finish clocks event (At event.start);
-  recurrence = unwrap_or recurrence (instant clocks event.start);
-  event = event;
-}
-
--- such an occurrence, if it begins before the window's end
-abbrev pub begun_first : Clocks → Window → Event → Option ℤ → Option Entry
-begun_first clocks w event recurrence =
-    if int_lt (instant clocks event.start) w.to then Some (entry_first clocks event recurrence) else None
-
--- the occurrence that is held without its finish
-abbrev pub single_entry : Single → Entry
-single_entry s = record {
-  start = s.start;
-  finish = finish (clocks_in s.zones) s.event.now (At s.event.now.start);
-  recurrence = s.recurrence;
-  event = s.event.now;
-}
 
 -- an occurrence meets the window, comes after the key, and is replaced by no override
 abbrev pub is_to_come : Window → List Label → Option Rank → Entry → Bool

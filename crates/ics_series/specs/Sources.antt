@@ -14,7 +14,7 @@ use Rattle.ics_listing.specs.Entry.{Rank}
 use Rattle.ics_series.specs.HeldMost.{Master}
 use Rattle.ics_series.specs.PlacedEvents.{Placed, clocks_at}
 use Rattle.ics_listing.specs.Rising.{Rises, Rises-prop}
-use Rattle.ics_series.specs.Singles.{is_single}
+use Rattle.ics_starts.specs.SingleEvents.{is_single}
 use Rattle.ics_listing.specs.FeedSources.{Recurring, Source}
 use Rattle.ics_listing.specs.FeedSources.Source.{Once, Of}
 

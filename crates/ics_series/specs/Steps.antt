@@ -5,15 +5,15 @@ use Rattle.ics_fields.specs.declared.local.Local.{Local}
 use Rattle.ics_rule.specs.Cursors.{looks_from, period_count}
 use Rattle.ics_fields.specs.Locals.{number, local_seconds, whole_days, year_number}
 use Rattle.ics_rule.specs.Kept.{until_moment}
-use Rattle.ics_rule.specs.Recurrence.{Recurrence}
+use Rattle.ics_period.specs.Recurrence.{Recurrence}
 use Rattle.ics_listing.specs.Entry.{Entry}
-use Rattle.ics_series.specs.Leeway.{seconds_back, seconds_off}
+use Rattle.ics_starts.specs.Leeway.{seconds_back, seconds_off}
 use Rattle.ics_listing.specs.Listing.{IsIn}
-use Rattle.ics_series.specs.RuleStarts.{ends_at}
-use Rattle.ics_series.specs.SeriesStarts.{first_of, IsKeptAt}
+use Rattle.ics_starts.specs.RuleStarts.{ends_at}
+use Rattle.ics_starts.specs.SeriesStarts.{first_of, IsKeptAt}
 use Rattle.ics_listing.specs.FeedSources.{Recurring}
 use Rattle.ics_listing.specs.StartTimes.{local_of}
-use Rattle.ics_series.specs.Starts.{recurrence_of}
+use Rattle.ics_starts.specs.Starts.{recurrence_of}
 
 -- The local with this number is not past DTSTART, or not past so many seconds and a day before the first instant that is needed. That is the
 -- first at which an event of this length can still meet the window or, if it is earlier, the earliest start by a PERIOD that meets it by its own
@@ -25,8 +25,8 @@ IsLookedFrom m a =
     +ℤ pos (year_number 1_970))
 
 -- the local with this number is so many seconds or more past an instant
-abbrev pub IsPast : ℤ → ℤ → ℕ → Type 0
-IsPast seconds t b = ((t +ℤ seconds) +ℤ pos (year_number 1_970)) ≤ℤ pos b
+abbrev pub IsEarlier : ℤ → ℤ → ℕ → Type 0
+IsEarlier seconds t b = ((t +ℤ seconds) +ℤ pos (year_number 1_970)) ≤ℤ pos b
 
 -- it is three days or more past the start of an occurrence of the master still to come that begins at the instant of DTSTART's local or of one
 -- that the rule keeps
@@ -36,12 +36,12 @@ pub record IsPastStart (m : Recurring) (coming : List Entry) (b : ℕ) : Type 0 
   pub of : occurrence.event ≡ m.event
   pub local : Local
   pub kept : IsKeptAt m.clocks m.event local occurrence.start
-  pub past : IsPast (whole_days 3) occurrence.start b
+  pub past : IsEarlier (whole_days 3) occurrence.start b
 
 -- it is so past such a start, or past the end of the rule in the window, by a day and as many seconds as a local can be off
 abbrev pub IsLookedTo : Recurring → List Entry → Recurrence → ℕ → Type 0
 IsLookedTo m coming rule b =
-    IsPast (seconds_off m.event.start.stamp +ℤ whole_days 1) (ends_at m.window (until_moment rule) (local_seconds (local_of m.event.start.stamp))) b
+    IsEarlier (seconds_off m.event.start.stamp +ℤ whole_days 1) (ends_at m.window (until_moment rule) (local_seconds (local_of m.event.start.stamp))) b
     ⊎ IsPastStart m coming b
 
 -- most is two more than the number of the periods of the master's rule that hold a local among which starts are searched for; under COUNT

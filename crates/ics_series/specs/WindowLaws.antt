@@ -5,7 +5,8 @@ use Rattle.ics_listing.specs.declared.window.Window.{Window}
 use Rattle.ics_listing.specs.FileClocks.{Clock}
 use Rattle.ics_listing.specs.Entry.{Entry, entry_cmp}
 use Rattle.ics_listing.specs.Listing.{IsIn, IsListing}
-use Rattle.ics_series.specs.Meets.{IsListed, Meets}
+use Rattle.ics_series.specs.Meets.{IsListed}
+use Rattle.ics_starts.specs.MeetsWindow.{Meets}
 use Rattle.ics_series.specs.Occurs.{Occurs}
 
 -- if what began before the window is left out, an occurrence is listed exactly if it starts in the window

@@ -1,11 +1,11 @@
 //! The listing of a window.
-ghost use Rattle.std.specs.Prelude.{◌≡◌, ◌≤◌, ◌-◌, ◌^◌, ℕ, List, [], filter, length, map, min, sum_by, IfOk};
+ghost use Rattle.std.specs.Prelude.{◌≡◌, ◌≤◌, ◌-◌, ◌^◌, ℕ, List, [], filter, length, map, min, sum_by, true, IfOk};
 ghost use Rattle.std.specs.List.Sorted.{IsSorted};
 ghost use Rattle.std.specs.Option.{option_map};
 ghost use Rattle.std.specs.Ordering.{on};
 ghost use Rattle.ics_file.specs.File.{said_by};
-ghost use Rattle.ics_listing.specs.After.{after_key};
-ghost use Rattle.ics_series.specs.Clocks.{display_clock};
+ghost use Rattle.ics_listing.specs.After.{after_key, is_after};
+ghost use Rattle.ics_starts.specs.Clocks.{display_clock};
 ghost use Rattle.ics_listing.specs.Entry.{Entry, entry_cmp, entry_of, key_rank, rank_of};
 ghost use Rattle.ics_series.specs.HeldMost.{held_most};
 ghost use Rattle.ics_series.specs.Holding.{part_holds, part_looked};
@@ -22,11 +22,10 @@ ghost use Rattle.ics_series.specs.Sources.{master_of, recurring, AreApart, AreAp
 ghost use Rattle.ics_listing.specs.FeedSources.{Recurring};
 ghost use Rattle.ics_series.specs.Steps.{HasStepBound};
 ghost use Rattle.ics_listing.specs.Tokens.{IsKey};
-ghost use Rattle.ics_series.specs.Inner.Spans.{AreMovedOn, AreSpans};
+ghost use Rattle.ics_series.specs.Inner.Spans.{AreMovedOn, AreSpans, IsStartedBy};
 ghost use Rattle.ics_series.specs.Versions.{seen, subject_cmp, subject_seen, AreChosen};
 
 use crate::chosen::{chosen, is_named, overrides};
-use crate::mark::Mark;
 use crate::masters::push_series;
 use crate::part::Part;
 use crate::singles::Singles;
@@ -34,6 +33,8 @@ use crate::span::Span;
 use crate::version::{Subject, Version};
 use ics_file::FileEvents;
 use ics_listing::{Coming, Feed, Key, Merge, Occurrence, Window};
+use ics_starts::Mark;
+use ics_values::Moment;
 use ics_zone::Display;
 use std::alloc::{AllocError, Global};
 
@@ -51,7 +52,7 @@ pub struct Agenda<'a> {
 }
 
 impl<'a> Agenda<'a> {
-    // The occurrences of these files' events that meet the window and come after the key.
+    /// The occurrences of these files' events that meet the window and come after the key.
     pub(crate) fn new(
         alloc: Global,
         files: &'a [FileEvents],
@@ -75,12 +76,13 @@ impl<'a> Agenda<'a> {
         let mut spans = Vec::new(alloc);
         let mut marks = Vec::new(alloc);
         Agenda::of(
-            alloc, files, display, &chosen, &mut spans, &mut marks, window, after,
+            alloc, files, display, &chosen, &mut spans, &mut marks, window, after, None,
         )
     }
 
-    // Those of the versions that count. The spans, if there are any, say which of them need not be read, and
-    // are moved on where nothing is. The marks say from where on rules under COUNT are searched.
+    /// Those of the versions that count. The spans, if there are any, say which of them need not be read, and
+    /// are moved on where nothing is that begins at the floor or later. The marks say from where on rules under
+    /// COUNT are searched.
     pub(crate) fn of(
         alloc: Global,
         files: &'a [FileEvents],
@@ -90,11 +92,13 @@ impl<'a> Agenda<'a> {
         marks: &mut Vec<Option<Mark>>,
         window: Window,
         after: Option<&Key>,
+        floor: Option<Moment>,
     ) -> Result<Agenda<'a>, AllocError>
         requires chosen { AreChosen (map said_by files.now) (display_clock display.now) chosen.now }
-        requires spans { AreSpans (map said_by files.now) (display_clock display.now) window (map seen chosen.now) spans.old.items }
+        requires spans { AreSpans (map said_by files.now) (display_clock display.now) window floor (map seen chosen.now) spans.old.items }
+        requires floor { (o : Entry) → is_after (option_map (λ key. key_rank key.now) after) o ≡ true → IsStartedBy floor o }
         requires marks { AreMarks (map said_by files.now) (map seen chosen.now) marks.old.items }
-        ensures spans { AreMovedOn (map said_by files.entry.now) (display_clock display.entry.now) window (map seen chosen.entry.now)
+        ensures spans { AreMovedOn (map said_by files.entry.now) (display_clock display.entry.now) window floor (map seen chosen.entry.now)
             spans.old.items spans.new.items }
         ensures marks { AreMarks (map said_by files.entry.now) (map seen chosen.entry.now) marks.new.items }
         ensures listing { IfOk result (λ agenda. IsListing entry_cmp
@@ -111,13 +115,13 @@ impl<'a> Agenda<'a> {
         let mut parts = Vec::new(alloc);
         parts.push(Part::Singles(singles))?;
         push_series(
-            alloc, &mut parts, files, display, chosen, spans, marks, window, after,
+            alloc, &mut parts, files, display, chosen, spans, marks, window, after, floor,
         )?;
         let merge = Merge::of_sorted(alloc, parts, 1, window.from)?;
         Ok(Agenda { merge, overrides })
     }
 
-    // An agenda with nothing to come.
+    /// An agenda with nothing to come.
     pub(crate) fn ended(alloc: Global) -> Result<Agenda<'a>, AllocError>
         ensures none { IfOk result (λ agenda. ⟦<Agenda<'a> as Coming>⟧.coming agenda ≡ []) }
         ensures sources { IfOk result (λ agenda. ⟦<Agenda<'a> as Coming>⟧.sources agenda ≡ []) }

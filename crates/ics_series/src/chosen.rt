@@ -3,7 +3,7 @@ ghost use Rattle.std.specs.Prelude.{◌≡◌, filter, map, IfOk};
 ghost use Rattle.std.specs.List.Sorted.{IsSorted};
 ghost use Rattle.std.specs.Ordering.{on};
 ghost use Rattle.ics_file.specs.File.{said_by};
-ghost use Rattle.ics_series.specs.Clocks.{display_clock};
+ghost use Rattle.ics_starts.specs.Clocks.{display_clock};
 ghost use Rattle.ics_series.specs.Versions.{is_followed, is_named, is_override, is_same, lasts, seen, subject_cmp, subject_seen, AreChosen};
 ghost use Rattle.ics_series.specs.Inner.Whole.{AreRead};
 
@@ -29,7 +29,7 @@ pub(crate) fn chosen<'a>(
     last_of_each(alloc, &versions)
 }
 
-// The last of each run of versions of one subject.
+/// The last of each run of versions of one subject.
 fn last_of_each<'a>(alloc: Global, versions: &[Version<'a>]) -> Result<Vec<Version<'a>>, AllocError>
     ensures { IfOk result (λ last. map seen last.items ≡ lasts is_same (map seen versions.entry.now)) }
 {
@@ -43,7 +43,7 @@ fn last_of_each<'a>(alloc: Global, versions: &[Version<'a>]) -> Result<Vec<Versi
     Ok(last)
 }
 
-// Whether the next version has the same subject.
+/// Whether the next version has the same subject.
 fn is_followed(version: &Version<'_>, rest: &[Version<'_>]) -> bool
     ensures { result ≡ is_followed is_same (seen version.now) (map seen rest.now) }
 {
@@ -53,7 +53,7 @@ fn is_followed(version: &Version<'_>, rest: &[Version<'_>]) -> bool
     }
 }
 
-// Whether two versions have one subject. The first bytes of their UIDs tell most apart.
+/// Whether two versions have one subject. The first bytes of their UIDs tell most apart.
 #[tactic(auto, using(crate::proofs::BeginningLemmas::apart))]
 fn is_same(a: &Version<'_>, b: &Version<'_>) -> bool
     ensures { result ≡ is_same (seen a.now) (seen b.now) }

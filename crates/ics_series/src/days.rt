@@ -1,23 +1,25 @@
 //! The listing of a window under each day.
-ghost use Rattle.std.specs.Prelude.{◌≡◌, ◌⊎◌, ◌≤◌, ◌+◌, ◌-◌, ◌^◌, ◌≤ℤ◌, ◌<ℤ◌, ℕ, ℤ, false, length, min};
+ghost use Rattle.std.specs.Prelude.{◌≡◌, ◌⊎◌, ◌≤◌, ◌+◌, ◌-◌, ◌^◌, ◌≤ℤ◌, ◌<ℤ◌, ◌-ℤ◌, ℕ, ℤ, pos, false, true, length, min};
 ghost use Rattle.std.specs.Prelude.{List, [], map, IfOk, IfSome, OnErr, OnOk, None};
 ghost use Rattle.std.specs.Prelude.{int_le, if◌then◌else◌};
 ghost use Rattle.std.specs.Int.{int_min};
 ghost use Rattle.std.specs.Option.{option_map};
 ghost use Rattle.ics_fields.specs.Days.{IsDayNumber};
 ghost use Rattle.ics_file.specs.File.{said_by};
-ghost use Rattle.ics_series.specs.Clocks.{display_clock};
+ghost use Rattle.ics_starts.specs.Clocks.{display_clock};
 ghost use Rattle.ics_listing.specs.DayKeys.{day_key_rank, day_rank_of, first_near, last_near, IsNearDay, after_day_key, on_day_cmp, GivesOnDay, OnDay};
-ghost use Rattle.ics_series.specs.OnDays.{Begins, IsBehindKey, IsOnDay};
+ghost use Rattle.ics_listing.specs.After.{is_after};
+ghost use Rattle.ics_series.specs.OnDays.{date_at, is_on, Begins, IsBehindKey, IsOnDay};
 ghost use Rattle.ics_series.specs.DaySteps.{agenda_holds, agenda_looked, agenda_sources, day_and_start, masters_in, scope_by, scope_in, AreDayMasters};
 ghost use Rattle.ics_series.specs.DaySteps.{AreMasters, IsNearAgenda, IsPastAgenda, begin_day, HasDaysBound, IsLookedBefore};
-ghost use Rattle.ics_listing.specs.Entry.{key_rank};
+ghost use Rattle.ics_listing.specs.Entry.{key_rank, Entry};
 ghost use Rattle.ics_series.specs.HeldMost.{held_most};
 ghost use Rattle.ics_listing.specs.Listing.{IsIn, IsListing};
 ghost use Rattle.ics_series.specs.Inner.Marks.{marks-prop, AreMarks};
+ghost use Rattle.ics_starts.specs.MeetsWindow.{Meets};
 ghost use Rattle.ics_series.specs.PlacedEvents.{Placed};
 ghost use Rattle.ics_series.specs.Inner.SpanLaws.{spans-after-prop, those-chosen-prop, AreThoseChosen};
-ghost use Rattle.ics_series.specs.Inner.Spans.{can_meet, first_of, span_at, AreSpansAfter};
+ghost use Rattle.ics_series.specs.Inner.Spans.{can_meet, first_of, floor_of, span_at, AreSpansAfter, IsStartedBy};
 ghost use Rattle.ics_listing.specs.Tokens.{IsDayKey};
 ghost use Rattle.ics_series.specs.Versions.{seen, AreChosen};
 ghost use Rattle.ics_series.specs.declared.span.Span.{Span};
@@ -25,12 +27,14 @@ ghost use Rattle.ics_listing.specs.declared.window.Window.{Window};
 
 use crate::agenda::Agenda;
 use crate::chosen::chosen;
-use crate::mark::{Mark, add_places};
+use crate::date::{date_at, first_shown, last_shown};
+use crate::marks::add_places;
 use crate::occurrence_days::is_on;
 use crate::span::{Span, spans};
 use crate::version::Version;
 use ics_file::FileEvents;
-use ics_listing::{DayKey, Feed, Key, Occurrence, Window, first_near, last_near, near_day};
+use ics_listing::{DayKey, Feed, Key, Occurrence, Window, last_near, near_day};
+use ics_starts::Mark;
 use ics_values::{Local, Moment};
 use ics_zone::Display;
 use std::alloc::{AllocError, Global};
@@ -46,6 +50,10 @@ pub struct Days<'a> {
     window: Window,
     // The day and the start in the key after which the listing begins.
     after: Option<(i32, Moment)>,
+    // The last day that the display zone can show in the window.
+    last: i32,
+    // A key below those of all that starts in the window.
+    floor: Key,
     // The versions that count, and from when to when they are, of what is not over before today.
     versions: Vec<Version<'a>>,
     spans: Vec<Span>,
@@ -64,6 +72,9 @@ pub struct Days<'a> {
     ghost masters: { ∥ AreDayMasters (scope_in (map said_by files.now) (display_clock display.now) window after) today.day (agenda_sources today.agenda) ∥₁ },
     ghost before: { IsLookedBefore (scope_in (map said_by files.now) (display_clock display.now) window after) today.day today.looked },
     ghost past: { last_near window <ℤ today.day → today.looked ≡ 0 },
+    ghost shown: { (t : ℤ) → t <ℤ window.to → date_at (display_clock display.now) t ≤ℤ last },
+    ghost within: { last ≤ℤ last_near window },
+    ghost below: { floor.start ≡ window.from -ℤ pos 1 },
 }
 
 // A day of a listing.
@@ -79,7 +90,7 @@ struct Today<'a> {
 impl<'a> Days<'a> {
     ghost use Rattle.ics_series.specs.Ahead.{agenda_coming, scope_of, GivesToday, IsAhead};
 
-    // The occurrences to come of the events of these files, under their days.
+    /// The occurrences to come of the events of these files, under their days.
     pub(crate) fn new(
         alloc: Global,
         files: &'a [FileEvents],
@@ -100,7 +111,9 @@ impl<'a> Days<'a> {
         let mut spans = spans(alloc, files, display, &versions, &window)?;
         let mut marks = Vec::new(alloc);
         add_places(&mut marks, versions.len())?;
-        let (day, key) = begin(&window, after);
+        let last = last_shown(display, &window);
+        let floor = key_below(alloc, &window);
+        let (day, key) = begin(display, &window, after, &floor);
         let agenda = Days::agenda_of(
             alloc, files, display, &versions, &mut spans, &mut marks, &window, day, key,
         )?;
@@ -110,6 +123,8 @@ impl<'a> Days<'a> {
             display,
             window,
             after: day_and_start(after),
+            last,
+            floor,
             versions,
             spans,
             marks,
@@ -121,7 +136,7 @@ impl<'a> Days<'a> {
         })
     }
 
-    // What is to come near the day with which a listing begins. Past the last day there is nothing.
+    /// What is to come near the day with which a listing begins. Past the last day there is nothing.
     fn agenda_of(
         alloc: Global,
         files: &'a [FileEvents],
@@ -149,7 +164,9 @@ impl<'a> Days<'a> {
             return Agenda::ended(alloc);
         }
         let near = near_day(window, day);
-        Agenda::of(alloc, files, display, versions, spans, marks, near, key)
+        Agenda::of(
+            alloc, files, display, versions, spans, marks, near, key, None,
+        )
     }
 
     /// The first of the list still to come, with the day that it stands under, which then has the rest
@@ -162,12 +179,11 @@ impl<'a> Days<'a> {
         ensures scope { scope_of self.new ≡ scope_of self.old }
         ensures looked { self.old.today.looked ≤ self.new.today.looked }
     {
-        let last = last_near(&self.window);
         loop {
             if let Some(occurrence) = self.next_today()? {
                 return Ok(Some((self.today.day, occurrence)));
             }
-            if last <= self.today.day {
+            if self.last <= self.today.day {
                 return Ok(None);
             }
             self.turn()?;
@@ -200,11 +216,11 @@ impl<'a> Days<'a> {
         self.today.looked.saturating_add(self.today.agenda.steps())
     }
 
-    // The next of the day's.
+    /// The next of the day's.
     fn next_today(&mut self) -> Result<Option<Occurrence<'a>>, AllocError>
         ensures day { self.new.today.day ≡ self.old.today.day }
         ensures scope { scope_of self.new ≡ scope_of self.old }
-        ensures window { self.new.window ≡ self.old.window }
+        ensures last { self.new.last ≡ self.old.last }
         ensures looked { self.new.today.looked ≡ self.old.today.looked }
         ensures within { IfOk result (λ given. IfSome given (λ occurrence. IsDayNumber self.new.today.day)) }
         ensures none { IfOk result (λ given. given ≡ None → agenda_coming self.new.today.agenda ≡ []) }
@@ -222,20 +238,21 @@ impl<'a> Days<'a> {
         Ok(None)
     }
 
-    // Goes on to the next day on which something can be.
+    /// Goes on to the next day on which something can be.
     fn turn(&mut self) -> Result<(), AllocError>
-        requires more { self.old.today.day <ℤ last_near self.old.window }
+        requires more { self.old.today.day <ℤ self.old.last }
         requires none { agenda_coming self.old.today.agenda ≡ [] }
-        ensures day { OnOk result (self.old.today.day <ℤ self.new.today.day × (self.new.today.day ≤ℤ last_near self.new.window)) }
+        ensures day { OnOk result (self.old.today.day <ℤ self.new.today.day × (self.new.today.day ≤ℤ self.new.last)) }
         ensures scope { scope_of self.new ≡ scope_of self.old }
-        ensures window { self.new.window ≡ self.old.window }
+        ensures last { self.new.last ≡ self.old.last }
         ensures counted { OnOk result (self.new.today.looked ≡ min (self.old.today.looked + agenda_looked self.old.today.agenda) (2 ^ 64 - 1)) }
         ensures kept { OnErr result (self.new.today.looked ≡ self.old.today.looked) }
         ensures risen { self.old.today.looked ≤ self.new.today.looked }
         ensures ahead { (list : List OnDay) → IsAhead self.old list → IsAhead self.new list }
     {
-        let day = next_day(&self.spans, &self.window, self.today.day);
+        let day = next_day(&self.spans, &self.window, self.last, self.today.day);
         let near = near_day(&self.window, day);
+        let key = key_near(self.display, &self.window, day, &self.floor);
         let agenda = Agenda::of(
             self.alloc,
             self.files,
@@ -244,7 +261,8 @@ impl<'a> Days<'a> {
             &mut self.spans,
             &mut self.marks,
             near,
-            None,
+            key,
+            floor_of(&self.window),
         )?;
         let looked = self.today.looked.saturating_add(self.today.agenda.steps());
         self.today = Today {
@@ -256,23 +274,24 @@ impl<'a> Days<'a> {
     }
 }
 
-// The next day near which something can be, or the last that a clock can show in the window.
-fn next_day(spans: &[Span], window: &Window, day: i32) -> i32
+/// The next day near which something can be, or the last.
+fn next_day(spans: &[Span], window: &Window, last: i32, day: i32) -> i32
     requires low { first_near window.now ≤ℤ day }
-    requires more { day <ℤ last_near window.now }
+    requires last { last ≤ℤ last_near window.now }
+    requires more { day <ℤ last }
     ensures later { day <ℤ result }
-    ensures last { result ≤ℤ last_near window.now }
+    ensures last { result ≤ℤ last }
     ensures none { (x : ℤ) → day <ℤ x → x <ℤ result → (s : Span) → IsIn s spans.now → (n : Window) → IsNearDay window.now x n → can_meet s n ≡ false }
 {
     let next = day + 1;
     let from = i64::from(next - 2) * 86_400;
     let first = first_after(spans, window.to, from).max(window.from);
     let reached = Local::of_seconds(first).day - 2;
-    reached.max(next).min(last_near(window))
+    reached.max(next).min(last)
 }
 
-// The first instant at which something can begin of what has not ended before an instant, or the end if
-// that is earlier.
+/// The first instant at which something can begin of what has not ended before an instant, or the end if
+/// that is earlier.
 fn first_after(spans: &[Span], end: Moment, from: Moment) -> Moment
     ensures { result ≡ first_of from end spans.now }
 {
@@ -283,7 +302,7 @@ fn first_after(spans: &[Span], end: Moment, from: Moment) -> Moment
     first
 }
 
-// The earlier of an instant and of the beginning of a span that has not ended before another.
+/// The earlier of an instant and of the beginning of a span that has not ended before another.
 fn sooner(first: Moment, span: &Span, from: Moment) -> Moment
     ensures { result ≡ (if int_le from span.now.last then int_min first span.now.first else first) }
 {
@@ -294,21 +313,65 @@ fn sooner(first: Moment, span: &Span, from: Moment) -> Moment
     }
 }
 
-// The day with which a listing begins, and the key after which it does there.
-fn begin<'k>(window: &Window, after: Option<&'k DayKey>) -> (i32, Option<&'k Key>)
-    ensures begins { Begins window.now (option_map (λ key. day_key_rank key.now) after.entry) result.0
+/// The day with which a listing begins, and the key after which it does there.
+fn begin<'k>(
+    display: &Display,
+    window: &Window,
+    after: Option<&'k DayKey>,
+    floor: &'k Key,
+) -> (i32, Option<&'k Key>)
+    requires { floor.now.start ≡ window.now.from -ℤ pos 1 }
+    ensures begins { Begins (display_clock display.now) window.now (option_map (λ key. day_key_rank key.now) after.entry) result.0
         (option_map (λ key. key_rank key.now) result.1) }
     ensures behind { IsBehindKey (option_map (λ key. day_key_rank key.now) after.entry) result.0
         (option_map (λ key. key_rank key.now) result.1) }
 {
-    let first = first_near(window);
+    let first = first_shown(display, window);
     match after {
         Some(after) if first <= after.day => (after.day, Some(&after.key)),
-        _ => (first, None),
+        _ => (first, key_near(display, window, first, floor)),
     }
 }
 
-// The day and the start in a key.
+/// The key after which all is that is shown under a day. Under a day before that of the window's first instant nothing is shown that began
+/// by then, and under no day what began before, if that is left out.
+fn key_near<'k>(display: &Display, window: &Window, day: i32, floor: &'k Key) -> Option<&'k Key>
+    requires { floor.now.start ≡ window.now.from -ℤ pos 1 }
+    ensures shown { (o : Entry) → Meets window.now o → is_on (display_clock display.now) window.now o day ≡ true
+        → is_after (option_map (λ key. key_rank key.now) result) o ≡ true }
+    ensures floor { (o : Entry) → is_after (option_map (λ key. key_rank key.now) result) o ≡ true → IsStartedBy (floor_of window.now) o }
+{
+    let early = day < date_at(display, window.from);
+    if window.notstarted | early {
+        Some(floor)
+    } else {
+        None
+    }
+}
+
+/// Where what began before a window is left out, an instant just before it.
+fn floor_of(window: &Window) -> Option<Moment>
+    ensures { result ≡ floor_of window.now }
+{
+    if window.notstarted {
+        Some(window.from - 1)
+    } else {
+        None
+    }
+}
+
+/// A key below those of all that starts in a window.
+fn key_below(alloc: Global, window: &Window) -> Key
+    ensures { result.start ≡ window.now.from -ℤ pos 1 }
+{
+    Key {
+        start: window.from - 1,
+        uid: Vec::new(alloc),
+        recurrence: Moment::MIN,
+    }
+}
+
+/// The day and the start in a key.
 fn day_and_start(after: Option<&DayKey>) -> Option<(i32, Moment)>
     ensures { result ≡ option_map day_and_start (option_map (λ key. day_key_rank key.now) after.entry) }
 {

@@ -1,6 +1,5 @@
 //! Laws of the definitions. Each is the contract of a function that has no other purpose.
-ghost use Rattle.ics_series.specs.Laws.{AddedFiles, EachStart, ListingAfter, ListingBehind, MostInDays, MostOfMasters, NoneExcluded, OneListing};
-ghost use Rattle.ics_series.specs.Laws.{OneRecurrence, OneStart, OneVersion, OrderOfFiles, RawCounted, StartsByUntil};
+ghost use Rattle.ics_series.specs.Laws.{AddedFiles, ListingAfter, ListingBehind, MostOfMasters, OneListing, OneRecurrence, OneVersion, OrderOfFiles};
 ghost use Rattle.ics_series.specs.WindowLaws.{ListingWithin, ListingsJoin, ListsStarts, ListsUnderWay};
 
 /// A window of a folder has one listing at most.
@@ -40,46 +39,10 @@ pub fn one_recurrence()
     ensures { OneRecurrence }
 {}
 
-/// Each DTSTART, each local that a rule keeps and each RDATE starts an occurrence. If several sources
-/// give one instant, the first wins. A UTC UNTIL removes the kept locals past it, and EXDATEs remove
-/// starts.
-pub fn each_start()
-    ensures { EachStart }
-{}
-
-/// UNTIL in UTC bounds a rule in an inclusive manner (RFC 5545, section 3.3.10): of an event with date-times
-/// the starts by the rule are, but for DTSTART, exactly those by the same rule without UNTIL that are not
-/// after that instant.
-pub fn starts_by_until()
-    ensures { StartsByUntil }
-{}
-
-/// The starts of an event in five UTC days are counted as by `held_most`: each local and each RDATE, by
-/// its place, that gives a start counts once.
-pub fn raw_counted()
-    ensures { RawCounted }
-{}
-
-/// No five UTC days in a row have more starts of an event than `held_most` counts for it, and some
-/// have as many.
-pub fn most_in_days()
-    ensures { MostInDays }
-{}
-
 /// The bound on what a listing holds is no greater for its own masters than for all masters of the
 /// folder that count.
 pub fn most_of_masters()
     ensures { MostOfMasters }
-{}
-
-/// An event without a rule and without RDATEs occurs at its DTSTART alone.
-pub fn one_start()
-    ensures { OneStart }
-{}
-
-/// No occurrence starts where an EXDATE removes a start.
-pub fn none_excluded()
-    ensures { NoneExcluded }
 {}
 
 /// If what began before a window is left out, exactly the occurrences that start in the window are listed.

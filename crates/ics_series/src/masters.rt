@@ -1,33 +1,34 @@
 //! The masters that recur, each of them as a feed.
-ghost use Rattle.std.specs.Prelude.{◌≡◌, ◌<◌, ◌≤ℤ◌, negsuc, [], ◌∷◌, length, map, slice_get, IfOk, MatchOption, None, Some};
+ghost use Rattle.std.specs.Prelude.{◌≡◌, ◌<◌, [], ◌∷◌, length, map, slice_get, true, IfOk, MatchOption, Some};
 ghost use Rattle.std.specs.List.{flat_map};
 ghost use Rattle.std.specs.Option.{option_map};
 ghost use Rattle.ics_file.specs.File.{said_by};
 ghost use Rattle.ics_event.specs.declared.event.Event.{Event};
-ghost use Rattle.ics_series.specs.Clocks.{display_clock};
-ghost use Rattle.ics_listing.specs.Entry.{entry_cmp, key_rank};
+ghost use Rattle.ics_starts.specs.Clocks.{display_clock};
+ghost use Rattle.ics_listing.specs.After.{is_after};
+ghost use Rattle.ics_listing.specs.Entry.{entry_cmp, key_rank, Entry};
 ghost use Rattle.ics_listing.specs.Listing.{IsListing};
-ghost use Rattle.ics_series.specs.Inner.Marks.{AreMarks, IsBegun, IsMarkOf};
-ghost use Rattle.ics_series.specs.Inner.Masters.{HasLists, HasSources, IsOfVersion, IsSince, IsSourceOf, Recurs};
+ghost use Rattle.ics_series.specs.Inner.Marks.{AreMarks};
+ghost use Rattle.ics_starts.specs.RuleMarks.{IsBegun, IsMarkOf};
+ghost use Rattle.ics_series.specs.Inner.Masters.{HasLists, HasSources, IsBehind, IsOfVersion, IsSince, IsSourceOf, Recurs};
 ghost use Rattle.ics_series.specs.AgendaParts.{part_coming, part_sources};
-ghost use Rattle.ics_series.specs.SeriesFeed.{series_left, series_of, series_sources, IsSameSeries};
-ghost use Rattle.ics_series.specs.Singles.{is_single};
+ghost use Rattle.ics_starts.specs.SeriesFeed.{series_left, series_of, series_sources, IsSameSeries};
+ghost use Rattle.ics_starts.specs.SingleEvents.{is_single};
 ghost use Rattle.ics_listing.specs.FeedSources.{Recurring};
 ghost use Rattle.ics_series.specs.Sources.{IsFrom};
 ghost use Rattle.ics_listing.specs.FeedSources.Source.{Of};
-ghost use Rattle.ics_series.specs.FileZones.{clocks_in};
-ghost use Rattle.ics_series.specs.Inner.Spans.{AreMovedOn, AreSpans, IsMovedOn};
+ghost use Rattle.ics_starts.specs.FileZones.{clocks_in};
+ghost use Rattle.ics_series.specs.Inner.Spans.{AreMovedOn, AreSpans, IsMovedOn, IsStartedBy};
 ghost use Rattle.ics_series.specs.Spots.{event_at};
 ghost use Rattle.ics_series.specs.Versions.{seen, AreChosen};
 
-use crate::mark::{Mark, mark_at, put_mark};
+use crate::marks::{mark_at, put_mark};
 use crate::part::Part;
-use crate::series::Series;
-use crate::singles::is_single;
 use crate::span::{Span, is_out, put_span};
 use crate::version::Version;
 use ics_file::FileEvents;
 use ics_listing::{Coming, Key, Window};
+use ics_starts::{Mark, Series, is_single};
 use ics_values::Moment;
 use ics_zone::Display;
 use std::alloc::{AllocError, Global};
@@ -47,11 +48,13 @@ pub(crate) fn push_series<'a>(
     marks: &mut Vec<Option<Mark>>,
     window: Window,
     after: Option<&Key>,
+    floor: Option<Moment>,
 ) -> Result<(), AllocError>
     requires chosen { AreChosen (map said_by files.now) (display_clock display.now) chosen.now }
-    requires spans { AreSpans (map said_by files.now) (display_clock display.now) window (map seen chosen.now) spans.old.items }
+    requires spans { AreSpans (map said_by files.now) (display_clock display.now) window floor (map seen chosen.now) spans.old.items }
+    requires floor { (o : Entry) → is_after (option_map (λ key. key_rank key.now) after) o ≡ true → IsStartedBy floor o }
     requires marks { AreMarks (map said_by files.now) (map seen chosen.now) marks.old.items }
-    ensures spans { AreMovedOn (map said_by files.entry.now) (display_clock display.entry.now) window (map seen chosen.entry.now)
+    ensures spans { AreMovedOn (map said_by files.entry.now) (display_clock display.entry.now) window floor (map seen chosen.entry.now)
         spans.old.items spans.new.items }
     ensures marks { AreMarks (map said_by files.entry.now) (map seen chosen.entry.now) marks.new.items }
     ensures lists { IfOk result (λ _. HasLists (map said_by files.entry.now) (display_clock display.entry.now) window
@@ -74,7 +77,7 @@ pub(crate) fn push_series<'a>(
             alloc, files, display, chosen, place, mark, window, after,
         )? {
             let begun = series.mark();
-            move_on(spans, place, after, &mut series)?;
+            move_on(spans, place, floor, &mut series)?;
             parts.push(Part::Series(Box::new(alloc, series)?))?;
             put_mark(marks, place, begun);
         }
@@ -82,20 +85,20 @@ pub(crate) fn push_series<'a>(
     Ok(())
 }
 
-// Moves on the span at a place, if there is one and nothing of its version meets the window of the
-// series. After a key that is not asked.
+/// Moves on the span at a place, if there is one and nothing of its version meets the window of the
+/// series. Of a series that begins later than the floor that is not asked.
 fn move_on(
     spans: &mut Vec<Span>,
     place: usize,
-    after: Option<&Key>,
+    floor: Option<Moment>,
     series: &mut Series<'_>,
 ) -> Result<(), AllocError>
     ensures same { IsSameSeries series.old series.new }
     ensures coming { series_of series.new (series_left series.new) ≡ series_of series.old (series_left series.old) }
     ensures spans { IsMovedOn (clocks_in series.old.zones) series.old.event.now series.old.window series.old.since
-        (option_map (λ key. key_rank key.now) after.entry) (series_of series.old (series_left series.old)) spans.old.items place spans.new.items }
+        floor (series_of series.old (series_left series.old)) spans.old.items place spans.new.items }
 {
-    if after.is_some() || spans.len() <= place {
+    if floor.unwrap_or(Moment::MIN) < series.since() || spans.len() <= place {
         return Ok(());
     }
     if series.settle()? {
@@ -109,7 +112,7 @@ fn move_on(
     Ok(())
 }
 
-// The feed of the version at a place, if its event recurs.
+/// The feed of the version at a place, if its event recurs.
 fn series_at<'a>(
     alloc: Global,
     files: &'a [FileEvents],
@@ -128,8 +131,9 @@ fn series_at<'a>(
         (Recurs (map said_by files.entry.now) (seen version) → ⊥)
         (λ series. IsListing entry_cmp (IsOfVersion (map said_by files.entry.now) (display_clock display.entry.now) window
         (option_map (λ key. key_rank key.now) after.entry) (seen version)) (⟦<Series<'a> as Coming>⟧.coming series))) }
-    ensures since { option_map (λ key. key_rank key.now) after.entry ≡ None
-        → IfOk result (λ given. MatchOption given (Unit {0}) (λ series. series.since ≤ℤ series.window.from)) }
+    ensures since { (version : Version) → slice_get chosen.entry.now place ≡ Some version → IfOk result (λ given. MatchOption given (Unit {0})
+        (λ series. IsBehind (map said_by files.entry.now) (display_clock display.entry.now) window
+        (option_map (λ key. key_rank key.now) after.entry) (seen version) series.since)) }
     ensures begun { IfOk result (λ given. MatchOption given (Unit {0}) (λ series. MatchOption series.rule_starts (Unit {0})
         (λ s. IsBegun s.rule s.from s.cursor))) }
     ensures sources { (version : Version) → slice_get chosen.entry.now place ≡ Some version → IfOk result (λ given. MatchOption given (Unit {0})
@@ -147,11 +151,10 @@ fn series_at<'a>(
     Ok(Some(series))
 }
 
-// The instant from which on the occurrences of a master with this UID come after the key.
+/// The instant from which on the occurrences of a master with this UID come after the key.
 fn since_of(after: Option<&Key>, uid: &[u8]) -> Moment
     ensures since { IsSince (option_map (λ key. key_rank key.now) after.entry) uid.entry.now result }
     ensures from { IsFrom (option_map (λ key. key_rank key.now) after.entry) result }
-    ensures always { option_map (λ key. key_rank key.now) after.entry ≡ None → result ≡ negsuc 9_223_372_036_854_775_807 }
 {
     let Some(key) = after else {
         return Moment::MIN;

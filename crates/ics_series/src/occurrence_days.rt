@@ -1,7 +1,7 @@
 //! The days of an occurrence in a window.
 ghost use Rattle.std.specs.Prelude.{◌≡◌, IsTrue};
 ghost use Rattle.ics_fields.specs.Days.{IsDayNumber};
-ghost use Rattle.ics_series.specs.Clocks.{display_clock};
+ghost use Rattle.ics_starts.specs.Clocks.{display_clock};
 ghost use Rattle.ics_series.specs.OnDays.{is_on};
 ghost use Rattle.ics_listing.specs.Entry.{entry_of};
 

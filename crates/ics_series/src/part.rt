@@ -1,8 +1,8 @@
 //! The feeds that an agenda merges.
 
-use crate::series::Series;
 use crate::singles::Singles;
 use ics_listing::{Begins, Coming, Feed, Holding, Occurrence};
+use ics_starts::Series;
 use ics_values::Moment;
 use std::alloc::AllocError;
 

@@ -1,11 +1,11 @@
 //! Preparing zones for a listing.
 ghost use Rattle.std.specs.Prelude.{◌≡◌};
 
-use crate::singles::is_single;
 use ics_event::{Event, Length};
 use ics_fields::Until;
 use ics_file::FileEvents;
 use ics_listing::{Window, local_of};
+use ics_starts::is_single;
 use ics_values::Moment;
 use ics_zone::Zone;
 
@@ -31,7 +31,7 @@ pub(crate) fn prepare_each(files: &mut [FileEvents], window: &Window)
     }
 }
 
-// Prepares the zones that the events of a file name.
+/// Prepares the zones that the events of a file name.
 fn prepare_named(file: &mut FileEvents, window: &Window)
     ensures { file.new ≡ file.old }
 {
@@ -45,9 +45,9 @@ fn prepare_named(file: &mut FileEvents, window: &Window)
     }
 }
 
-// Where an event asks in a window. In a short one all that may be listed is near its ends. In a long one an event that starts once asks
-// near its start, and one that recurs from its start on, if that is not before the window. It also asks near DTSTART if it has DTEND, since
-// both tell how long each occurrence lasts.
+/// Where an event asks in a window. In a short one all that may be listed is near its ends. In a long one an event that starts once asks
+/// near its start, and one that recurs from its start on, if that is not before the window. It also asks near DTSTART if it has DTEND, since
+/// both tell how long each occurrence lasts.
 fn asked_by(event: &Event, window: &Window) -> Asked {
     let (from, to) = (window.from, window.to);
     if to <= from.saturating_add(SHORT) {
@@ -78,7 +78,7 @@ fn asked_by(event: &Event, window: &Window) -> Asked {
     }
 }
 
-// An instant after the starts by a rule with UNTIL: the third midnight after that day. Without UNTIL it is the last instant.
+/// An instant after the starts by a rule with UNTIL: the third midnight after that day. Without UNTIL it is the last instant.
 fn recurs_to(event: &Event) -> Moment {
     let Some(rule) = &event.rule else {
         return Moment::MAX;
@@ -91,7 +91,7 @@ fn recurs_to(event: &Event) -> Moment {
     (i64::from(day) + 3) * DAY
 }
 
-// Prepares a zone where it is asked.
+/// Prepares a zone where it is asked.
 fn prepare(zone: &mut Zone, asked: Asked)
     ensures { zone.new ≡ zone.old }
 {

@@ -1,27 +1,27 @@
 //! The occurrences of the events of a folder that start once.
-ghost use Rattle.std.specs.Prelude.{◌≡◌, filter, map, IfOk, IsSome};
+ghost use Rattle.std.specs.Prelude.{◌≡◌, filter, map, IfOk, IsSome, ℤ, Option};
 ghost use Rattle.std.specs.List.{filter_map};
 ghost use Rattle.std.specs.List.Sorted.{IsSorted};
 ghost use Rattle.std.specs.Option.{option_map};
 ghost use Rattle.std.specs.Ordering.{on};
 ghost use Rattle.std.specs.Vec.Iter.{into_iter_items};
 ghost use Rattle.ics_file.specs.File.{said_by};
-ghost use Rattle.ics_series.specs.Clocks.{display_clock};
+ghost use Rattle.ics_starts.specs.Clocks.{display_clock};
 ghost use Rattle.ics_listing.specs.Entry.{entry_cmp, entry_of, key_rank};
 ghost use Rattle.ics_listing.specs.Listing.{IsListing};
 ghost use Rattle.ics_listing.specs.Rising.{Rises, Rises-prop};
-ghost use Rattle.ics_series.specs.Singles.{is_single, is_to_come, single_at, single_entry, AreSingle, AreSingle-prop, IsSingleToCome};
+ghost use Rattle.ics_starts.specs.SingleEvents.{is_single, single_entry};
+ghost use Rattle.ics_series.specs.Singles.{is_to_come, single_at, AreSingle, AreSingle-prop, IsSingleToCome};
 ghost use Rattle.ics_series.specs.Inner.Spans.{AreSpans};
 ghost use Rattle.ics_series.specs.Spots.{event_at};
 ghost use Rattle.ics_series.specs.Versions.{is_override, seen, subject_cmp, subject_seen, AreChosen};
 
 use crate::agenda::is_kept;
-use crate::single::Single;
 use crate::span::{Span, is_out};
 use crate::version::Version;
-use ics_event::Event;
 use ics_file::FileEvents;
 use ics_listing::{Begins, Coming, Feed, Key, Occurrence, Window, is_after};
+use ics_starts::{Single, is_single};
 use ics_values::Moment;
 use ics_zone::Display;
 use std::alloc::{AllocError, Global};
@@ -37,7 +37,7 @@ pub(crate) struct Singles<'a> {
 }
 
 impl<'a> Singles<'a> {
-    // Those of the versions that count that meet the window and, with a key, come after it.
+    /// Those of the versions that count that meet the window and, with a key, come after it.
     pub(crate) fn new(
         alloc: Global,
         files: &'a [FileEvents],
@@ -49,7 +49,7 @@ impl<'a> Singles<'a> {
         after: Option<&Key>,
     ) -> Result<Singles<'a>, AllocError>
         requires chosen { AreChosen (map said_by files.now) (display_clock display.now) chosen.now }
-        requires spans { AreSpans (map said_by files.now) (display_clock display.now) window.now (map seen chosen.now) spans.now }
+        requires spans { (floor : Option ℤ) × AreSpans (map said_by files.now) (display_clock display.now) window.now floor (map seen chosen.now) spans.now }
         requires overrides { map seen overrides.now ≡ filter is_override (map seen chosen.now) }
         ensures { IfOk result (λ singles. IsListing entry_cmp
             (IsSingleToCome (map said_by files.entry.now) (display_clock display.entry.now) window.now
@@ -99,8 +99,8 @@ impl<'a> Feed<'a> for Singles<'a> {
     }
 }
 
-// Those of the versions that count, in the order of their subjects. What cannot meet the window by its
-// span is not looked at.
+/// Those of the versions that count, in the order of their subjects. What cannot meet the window by its
+/// span is not looked at.
 fn to_come<'a>(
     alloc: Global,
     files: &'a [FileEvents],
@@ -112,7 +112,7 @@ fn to_come<'a>(
     after: Option<&Key>,
 ) -> Result<Vec<Single<'a>>, AllocError>
     requires chosen { AreChosen (map said_by files.now) (display_clock display.now) chosen.now }
-    requires spans { AreSpans (map said_by files.now) (display_clock display.now) window.now (map seen chosen.now) spans.now }
+    requires spans { (floor : Option ℤ) × AreSpans (map said_by files.now) (display_clock display.now) window.now floor (map seen chosen.now) spans.now }
     requires overrides { IsSorted (on (λ v. subject_seen v.subject) subject_cmp) overrides.now }
     ensures { IfOk result (λ singles. map single_entry singles.items
         ≡ filter_map (single_at (map said_by files.entry.now) (display_clock display.entry.now) window.now
@@ -132,7 +132,7 @@ fn to_come<'a>(
     Ok(singles)
 }
 
-// That of a version, if there is one.
+/// That of a version, if there is one.
 fn given<'a>(
     files: &'a [FileEvents],
     display: &'a Display,
@@ -160,15 +160,7 @@ fn given<'a>(
     }
 }
 
-// Whether an event starts once. An override starts at its DTSTART alone.
-pub(crate) fn is_single(event: &Event) -> bool
-    ensures { result ≡ is_single event.now }
-{
-    event.recurrence.is_some()
-        || (event.rule.is_none() && event.rdates.is_empty() && event.exdates.is_empty())
-}
-
-// Whether an occurrence meets the window, comes after the key, and is replaced by no override.
+/// Whether an occurrence meets the window, comes after the key, and is replaced by no override.
 fn is_to_come(
     occurrence: &Occurrence<'_>,
     overrides: &[Version<'_>],

@@ -1,16 +1,15 @@
 //! When the events of a folder are.
 ghost use Rattle.std.specs.Prelude.{◌≡◌, map, IfOk, IsSome};
 ghost use Rattle.ics_file.specs.File.{said_by};
-ghost use Rattle.ics_series.specs.Clocks.{display_clock};
+ghost use Rattle.ics_starts.specs.Clocks.{display_clock};
 ghost use Rattle.ics_series.specs.Inner.Spans.{can_meet, is_out, span_at, IsSpanPut};
 ghost use Rattle.ics_series.specs.Spots.{event_at};
 ghost use Rattle.ics_series.specs.Versions.{seen, AreChosen};
 
-use crate::single::Single;
-use crate::singles::is_single;
 use crate::version::Version;
 use ics_file::FileEvents;
 use ics_listing::Window;
+use ics_starts::{Single, is_single};
 use ics_values::Moment;
 use ics_zone::Display;
 use std::alloc::{AllocError, Global};
@@ -23,7 +22,7 @@ pub(crate) struct Span {
 }
 
 impl Span {
-    // Whether what lies in it can meet a window.
+    /// Whether what lies in it can meet a window.
     pub(crate) fn can_meet(self, window: &Window) -> bool
         ensures { result ≡ can_meet self window.now }
     {
@@ -52,7 +51,7 @@ pub(crate) fn spans(
     Ok(spans)
 }
 
-// That of a version.
+/// That of a version.
 fn span_at(files: &[FileEvents], display: &Display, version: &Version<'_>, window: &Window) -> Span
     requires { IsSome (event_at (map said_by files.now) version.now.spot) }
     ensures { result ≡ span_at (map said_by files.entry.now) (display_clock display.entry.now) window.now (seen version.now) }

@@ -2,9 +2,9 @@
 ghost use Rattle.std.specs.Prelude.{◌≡◌, Some, IsSome, map};
 ghost use Rattle.ics_file.specs.File.{said_by, IsEventOf};
 
-use crate::zones::FileZones;
 use ics_event::Event;
 use ics_file::FileEvents;
+use ics_starts::FileZones;
 use ics_zone::Display;
 
 /// The number of an event's file, and the event's place in that file.
@@ -15,13 +15,13 @@ pub(crate) struct Spot {
 }
 
 impl Spot {
-    ghost use Rattle.ics_series.specs.Clocks.{display_clock};
+    ghost use Rattle.ics_starts.specs.Clocks.{display_clock};
     ghost use Rattle.ics_series.specs.PlacedEvents.{clocks_at, zones_in};
     ghost use Rattle.ics_series.specs.Spots.{event_at};
-    ghost use Rattle.ics_series.specs.FileZones.{clocks_in};
+    ghost use Rattle.ics_starts.specs.FileZones.{clocks_in};
     ghost use Rattle.ics_zone.specs.ZoneSaid.{zone_said};
 
-    // The event at this place.
+    /// The event at this place.
     pub(crate) fn event<'a>(self, files: &'a [FileEvents]) -> &'a Event
         requires { IsSome (event_at (map said_by files.now) self) }
         ensures event { event_at (map said_by files.entry.now) self ≡ Some result.now }
@@ -31,7 +31,7 @@ impl Spot {
         &file.events[self.place]
     }
 
-    // The zones by which the times of the event are read.
+    /// The zones by which the times of the event are read.
     pub(crate) fn zones<'a>(self, files: &'a [FileEvents], display: &'a Display) -> FileZones<'a>
         requires { IsSome (event_at (map said_by files.now) self) }
         ensures zones { map zone_said result.zones.now ≡ zones_in (map said_by files.entry.now) self.file }

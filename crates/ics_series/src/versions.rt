@@ -3,19 +3,18 @@ ghost use Rattle.std.specs.Prelude.{◌≡◌, ◌++◌, map, slice_index_or, If
 ghost use Rattle.hex.specs.Hex.{IsBytes};
 ghost use Rattle.ics_file.specs.File.{said_by, AreEventsOf, IsEventOf};
 ghost use Rattle.ics_series.specs.Chosen.{overridden};
-ghost use Rattle.ics_series.specs.Clocks.{display_clock};
+ghost use Rattle.ics_starts.specs.Clocks.{display_clock};
 ghost use Rattle.ics_series.specs.Versions.{label_by, label_cmp, label_of, placed_from, placed_in, seen};
 ghost use Rattle.ics_series.specs.Inner.Beginnings.{beginning_of};
 ghost use Rattle.ics_series.specs.Inner.Whole.{AreRead, AreReadIn};
-ghost use Rattle.ics_series.specs.FileZones.{clocks_in};
+ghost use Rattle.ics_starts.specs.FileZones.{clocks_in};
 ghost use Rattle.ics_zone.specs.ZoneSaid.{zone_said};
 
-use crate::instant::instant;
 use crate::spot::Spot;
 use crate::version::{Subject, Version};
-use crate::zones::FileZones;
 use ics_event::Event;
 use ics_file::FileEvents;
+use ics_starts::{FileZones, instant};
 use ics_values::Moment;
 use ics_zone::Display;
 use std::alloc::{AllocError, Global};
@@ -33,7 +32,7 @@ pub(crate) fn compare(a: &Version<'_>, b: &Version<'_>) -> Ordering
     }
 }
 
-// By all of both.
+/// By all of both.
 fn compare_labels(a: &Version<'_>, b: &Version<'_>) -> Ordering
     ensures { result ≡ label_cmp (seen a.now) (seen b.now) }
 {
@@ -66,7 +65,7 @@ pub(crate) fn versions<'a>(
     Ok(versions)
 }
 
-// Adds the versions of a file's events.
+/// Adds the versions of a file's events.
 fn push_versions<'a>(
     versions: &mut Vec<Version<'a>>,
     file: usize,
@@ -95,7 +94,7 @@ fn push_versions<'a>(
     Ok(())
 }
 
-// The first eight bytes of a UID as a number, each that is missing as 0.
+/// The first eight bytes of a UID as a number, each that is missing as 0.
 fn beginning(uid: &[u8]) -> u64
     ensures { result ≡ beginning_of uid.now }
 {
@@ -106,7 +105,7 @@ fn beginning(uid: &[u8]) -> u64
     number
 }
 
-// The byte at a place, or 0 if there is none.
+/// The byte at a place, or 0 if there is none.
 fn byte_at(bytes: &[u8], place: usize) -> u8
     ensures { result ≡ slice_index_or bytes.now place 0 }
 {
@@ -116,12 +115,12 @@ fn byte_at(bytes: &[u8], place: usize) -> u8
     }
 }
 
-// What a slice of bytes holds are bytes: its type says so, and this makes it known of the list that it stands for.
+/// What a slice of bytes holds are bytes: its type says so, and this makes it known of the list that it stands for.
 fn are_bytes(bytes: &[u8])
     ensures { IsBytes bytes.now }
 {}
 
-// The instance of its UID that an event overrides.
+/// The instance of its UID that an event overrides.
 fn overridden(zones: FileZones<'_>, event: &Event) -> Option<Moment>
     requires own { IsEventOf (map zone_said zones.zones.now) event.now }
     ensures { result ≡ overridden (clocks_in zones.entry) event.now }

@@ -6,10 +6,10 @@ use Rattle.std.specs.Int.{int_min}
 use Rattle.std.proofs.lemmas.Int.{ints, clamps}
 use Rattle.std.proofs.lemmas.Bool.Decides.{nat_tests}
 use Rattle.ics_fields.specs.Locals.{number}
-use Rattle.ics_rule.specs.Recurrence.{Recurrence}
+use Rattle.ics_period.specs.Recurrence.{Recurrence}
 use Rattle.ics_rule.specs.Kept.{is_in_rule, is_kept, until_moment}
 use Rattle.ics_rule.specs.Next.{NoneKept}
-use Rattle.ics_rule.specs.PeriodNumbers.{rules_end}
+use Rattle.ics_period.specs.PeriodNumbers.{rules_end}
 use Rattle.ics_zone.specs.Observances.{instant_by, is_until}
 use Rattle.ics_rule.specs.CountBounds.{without_count}
 use Rattle.ics_rule.proofs.EndLemmas.{kept_without_count}

@@ -2,7 +2,7 @@
 use Rattle.std.proofs.Common.{◌≡◌, ℕ, ◌+◌, ◌<◌, inl, inr, sym, subst, arith, true, Option, Some, Contains, ℤ, ◌<ℤ◌, ◌≤ℤ◌, MatchOption}
 use Rattle.std.proofs.lemmas.Bool.{cases_lt}
 use Rattle.std.proofs.lemmas.Int.{ints}
-use Rattle.ics_rule.specs.Recurrence.{Recurrence}
+use Rattle.ics_period.specs.Recurrence.{Recurrence}
 use Rattle.ics_rule.specs.Kept.{is_kept}
 use Rattle.ics_rule.specs.Next.{NoneKept, IsNextKept}
 use Rattle.ics_zone.specs.declared.onsets.Onsets.{Onsets}

@@ -13,8 +13,8 @@ use Rattle.ics_zone.specs.declared.zone_observances.ZoneObservances.{ZoneObserva
 use Rattle.ics_zone.specs.declared.onsets.Onsets.{Onsets}
 use Rattle.ics_rule.specs.Kept.{is_kept}
 use Rattle.ics_rule.specs.Next.{IsNextKept}
-use Rattle.ics_rule.specs.PeriodNumbers.{rules_end}
-use Rattle.ics_rule.specs.Recurrence.{Recurrence}
+use Rattle.ics_period.specs.PeriodNumbers.{rules_end}
+use Rattle.ics_period.specs.Recurrence.{Recurrence}
 use Rattle.ics_zone.specs.Observances.{ObservanceSaid, instant_by}
 use Rattle.ics_zone.specs.Inner.Latest.{IsInOrder}
 use Rattle.ics_zone.specs.Inner.OnsetSets.{Has, IsKeptAt, IsShownBy, IsShownTo}

@@ -9,7 +9,7 @@ use Rattle.ics_fields.specs.declared.local.Local.{Local}
 use Rattle.ics_fields.specs.declared.until.Until.TheVariants as until
 use Rattle.ics_rule.specs.Kept.{is_kept, until_moment, until_moment_of}
 use Rattle.ics_rule.specs.UntilBounds.{without_until}
-use Rattle.ics_rule.specs.declared.kind.Kind.TheVariants.{DateTime}
+use Rattle.ics_period.specs.declared.kind.Kind.TheVariants.{DateTime}
 use Rattle.ics_rule.proofs.UntilLemmas.{kept_by_instants}
 use Rattle.ics_zone.specs.Observances.{epoch, instant_by, is_begin, is_by_rule, is_onset, is_until, rule_from, test_at, ObservanceSaid}
 use Rattle.ics_zone.specs.OnsetLaws.{unbounded_by, unruled, OnsetsByUntil}

@@ -4,8 +4,8 @@ use Rattle.std.specs.List.{list_any}
 use Rattle.ics_fields.specs.declared.local.Local.{Local}
 use Rattle.ics_fields.specs.RuleParts.{RuleParts}
 pub use Rattle.ics_fields.specs.Observances.{ObservanceSaid, IsObservanceSaid, IsObservance, is_finer_than_daily, is_finer_rule, has_finer_rule}
-use Rattle.ics_rule.specs.declared.kind.Kind.TheVariants.{DateTime}
-use Rattle.ics_rule.specs.Recurrence.{Recurrence}
+use Rattle.ics_period.specs.declared.kind.Kind.TheVariants.{DateTime}
+use Rattle.ics_period.specs.Recurrence.{Recurrence}
 use Rattle.ics_fields.specs.Locals.{number, year_number}
 use Rattle.ics_rule.specs.Kept.{is_kept, until_moment}
 use Rattle.std.specs.Coded.{Π_prop}

@@ -54,14 +54,14 @@ pub(crate) fn group_end(locals: &[i64], first: usize, days: u32) -> usize
     end
 }
 
-// Nothing is known yet of so many locals. None if an allocation fails.
+/// Nothing is known yet of so many locals. None if an allocation fails.
 fn unseen(alloc: Global, count: usize) -> Option<Vec<Seen>>
     ensures { IfSome result (λ seen. AreUnseen count seen.items) }
 {
     Vec::from_elem(alloc, Seen::Unshown(None), count).ok()
 }
 
-// Adds the instants of locals, given by their seconds, by what spans tell of each.
+/// Adds the instants of locals, given by their seconds, by what spans tell of each.
 fn add_settled(locals: &[i64], reach: &Reach, seen: &[Seen], answers: &mut Vec<Answer>)
     requires ready { (from : ℤ) × AreReady from locals.now }
     requires length { length seen.now ≡ length locals.now }

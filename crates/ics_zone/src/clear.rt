@@ -13,7 +13,7 @@ use ics_fields::Moment;
 /// Two hours before the end of the rules.
 const LAST: i64 = RULES_END - 7_200;
 
-// How many seconds of an hour, from an instant on, are not after another instant.
+/// How many seconds of an hour, from an instant on, are not after another instant.
 fn seconds_to(from: Moment, last: Moment) -> i64
     requires { IsSearched from }
     ensures first { (k : ℕ) → pos k <ℤ result → (from +ℤ pos k) ≤ℤ last }
@@ -22,7 +22,7 @@ fn seconds_to(from: Moment, last: Moment) -> i64
     last.clamp(from - 1, from + 3_600) - from + 1
 }
 
-// Marks a second of an hour.
+/// Marks a second of an hour.
 fn mark(marks: &mut [u64], second: usize)
     requires length { length marks.old ≡ 60 }
     requires inside { second < 3_600 }
@@ -33,7 +33,7 @@ fn mark(marks: &mut [u64], second: usize)
 }
 
 impl Onsets {
-    // What the rule keeps within an hour from an instant on, where that is easily told.
+    /// What the rule keeps within an hour from an instant on, where that is easily told.
     fn hours_from(&self, from: Moment) -> Option<Hours>
         requires sound { IsSound self.now }
         requires near { IsSearched from }
@@ -49,7 +49,7 @@ impl Onsets {
         Hours::of(rule, local as u64)
     }
 
-    // The onsets of the rule within an hour from an instant on, where they are easily told.
+    /// The onsets of the rule within an hour from an instant on, where they are easily told.
     fn told_within(&self, from: Moment) -> Option<[u64; 60]>
         requires sound { IsSound self.now }
         requires near { IsSearched from }
@@ -78,7 +78,7 @@ impl Onsets {
         }
     }
 
-    // Marks the onsets within an hour from an instant on, the listed ones and perhaps those of the rule, one after the other.
+    /// Marks the onsets within an hour from an instant on, the listed ones and perhaps those of the rule, one after the other.
     fn mark_each(&self, with_rule: bool, from: Moment, marks: &mut [u64])
         requires sound { IsSound self.now }
         requires near { IsSearched from }
@@ -96,7 +96,7 @@ impl Onsets {
         }
     }
 
-    // The onsets within an hour from an instant on.
+    /// The onsets within an hour from an instant on.
     fn within(&self, from: Moment) -> [u64; 60]
         requires sound { IsSound self.now }
         requires near { IsSearched from }

@@ -27,7 +27,7 @@ pub(crate) fn is_moment(seconds: i64) -> bool
     FIRST_HELD <= seconds && seconds <= LAST_HELD
 }
 
-// The instant at which a clock with this offset shows the local with number n.
+/// The instant at which a clock with this offset shows the local with number n.
 pub(crate) fn instant(offset: i32, n: u64) -> Moment
     requires { n < 2 ^ 48 }
     ensures { result ≡ instant_by offset n }
@@ -35,7 +35,7 @@ pub(crate) fn instant(offset: i32, n: u64) -> Moment
     n as i64 - EPOCH - i64::from(offset)
 }
 
-// The number of the local that a clock with this offset shows at an instant.
+/// The number of the local that a clock with this offset shows at an instant.
 pub(crate) fn shown_at(offset: i32, moment: Moment) -> u64
     requires offset { IsWithin 86_399 offset }
     requires near { IsSearched moment }
@@ -45,7 +45,7 @@ pub(crate) fn shown_at(offset: i32, moment: Moment) -> u64
     (moment + i64::from(offset) + EPOCH) as u64
 }
 
-// How many locals before the end of the rules a clock with this offset shows up to an instant.
+/// How many locals before the end of the rules a clock with this offset shows up to an instant.
 pub(crate) fn shown_by(offset: i32, moment: Moment) -> u64
     requires { IsWithin 86_399 offset }
     ensures { IsShownBy offset moment result }

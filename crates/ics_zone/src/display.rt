@@ -67,7 +67,7 @@ impl Clone for Display {
     }
 }
 
-// The zone with this offset, in seconds, at all times.
+/// The zone with this offset, in seconds, at all times.
 #[tactic(auto, unfolding(crate::specs::ZoneSaid::jiff_said))]
 fn fixed(seconds: i32) -> Display
     requires { IsWithin 86_340 seconds }

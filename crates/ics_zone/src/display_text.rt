@@ -6,7 +6,7 @@ ghost use Rattle.ics_zone.specs.DisplayTexts.{offset_said};
 
 use ics_fields::second_of_clock;
 
-// The seconds that a sign with `HH:MM` says, with hours to 23 and minutes to 59.
+/// The seconds that a sign with `HH:MM` says, with hours to 23 and minutes to 59.
 pub(crate) fn read_offset(text: &[u8]) -> Option<i32>
     ensures value { result ≡ offset_said text.now }
     ensures bound { IfSome result (IsWithin 86_340) }

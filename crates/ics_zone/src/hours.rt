@@ -3,7 +3,7 @@ ghost use Rattle.std.specs.Prelude.{◌≡◌, ℕ, ◌+◌, ◌*◌, ◌<◌, �
 ghost use Rattle.ics_fields.specs.Sets.{contains};
 ghost use Rattle.ics_zone.specs.Inner.Hours.{keeps, AreHoursOf};
 ghost use Rattle.ics_zone.specs.Inner.Marks.{is_marked};
-ghost use Rattle.ics_rule.specs.PeriodNumbers.{rules_end};
+ghost use Rattle.ics_period.specs.PeriodNumbers.{rules_end};
 
 use crate::sixty::{first_of, front, shifted};
 use crate::times::Times;
@@ -29,7 +29,7 @@ impl Hours {
         Some(Hours { hour, here, next })
     }
 
-    // The seconds of a minute of the clock.
+    /// The seconds of a minute of the clock.
     fn minute(&self, minute: u64) -> u64
         ensures { (n : ℕ) → n < 60 → contains result n ≡ keeps self.now (minute * 60 + n) }
     {
@@ -40,7 +40,7 @@ impl Hours {
         }
     }
 
-    // The seconds of a minute that begins at a local.
+    /// The seconds of a minute that begins at a local.
     fn minute_from(&self, local: u64) -> u64
         ensures { (n : ℕ) → n < 60 → contains result n ≡ keeps self.now (local + n) }
     {

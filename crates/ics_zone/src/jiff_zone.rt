@@ -45,7 +45,7 @@ impl JiffZone {
         })
     }
 
-    // The zone as jiff has it.
+    /// The zone as jiff has it.
     #[tactic(auto, unfolding(crate::specs::ZoneSaid::jiff_said))]
     fn zone(&self) -> TimeZone<'_>
         ensures { plain_said (plain_zone result) ≡ jiff_said self.now }
@@ -79,28 +79,19 @@ impl JiffZone {
         instant.as_second()
     }
 
-    /// Two offsets between which all others lie. A table has any that jiff allows.
+    /// Two offsets between which all others lie.
     pub fn bounds(&self) -> Bounds
         ensures { HasBounds (said_offset (jiff_said self.now)) (said_moment (jiff_said self.now)) result.least result.most }
     {
         match self {
-            JiffZone::Fixed(offset) => {
-                let seconds = i64::from(offset.seconds);
-                Bounds::about(seconds, seconds)
-            }
-            JiffZone::Posix(rule) => {
-                let standard = i64::from(rule.std_offset.seconds);
-                match rule.dst {
-                    None => Bounds::about(standard, standard),
-                    Some(dst) => Bounds::about(standard, i64::from(dst.offset.seconds)),
-                }
-            }
-            JiffZone::Table(_) => Bounds::about(-93_599, 93_599),
+            JiffZone::Fixed(offset) => Bounds::of_offset(*offset),
+            JiffZone::Posix(rule) => Bounds::of_offset(rule.std_offset).with_rule(*rule),
+            JiffZone::Table(table) => table.bounds(),
         }
     }
 }
 
-// The local as a `DateTime` of jiff's.
+/// The local as a `DateTime` of jiff's.
 fn datetime(local: Local) -> DateTime
     requires { IsDay local.day }
     ensures { civil_nanos result ≡ nanos_of_seconds (seconds_at local.day local.second) }

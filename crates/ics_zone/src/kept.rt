@@ -4,7 +4,7 @@ ghost use Rattle.ics_fields.specs.Locals.{calendar_end, number};
 ghost use Rattle.ics_rule.specs.Kept.{is_kept};
 ghost use Rattle.ics_rule.specs.Next.{NoneKept, IsNextKept};
 ghost use Rattle.ics_zone.specs.Inner.Latest.{IsLastKept, IsKnownLast};
-ghost use Rattle.ics_rule.specs.PeriodNumbers.{rules_end};
+ghost use Rattle.ics_period.specs.PeriodNumbers.{rules_end};
 
 use crate::clock::RULES_END;
 use ics_fields::Local;

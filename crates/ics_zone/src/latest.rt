@@ -31,7 +31,7 @@ pub(crate) struct Steady {
     pub offset: i32,
 }
 
-// The later of two onsets, if there is a first. If both are at one instant, the second, whose place comes after.
+/// The later of two onsets, if there is a first. If both are at one instant, the second, whose place comes after.
 fn later(first: Option<Latest>, second: Latest) -> Latest
     ensures { MatchOption first (result ≡ second)
         (λ f. ((result ≡ second) × (f.at ≤ℤ second.at)) ⊎ ((result ≡ f) × (second.at <ℤ f.at))) }
@@ -42,7 +42,7 @@ fn later(first: Option<Latest>, second: Latest) -> Latest
     }
 }
 
-// Whether an observance may have an onset that is not after an instant, and not less than one at another, by instant and then by place.
+/// Whether an observance may have an onset that is not after an instant, and not less than one at another, by instant and then by place.
 fn has_not_less(one: &Onsets, is_at_once: bool, at: Moment, moment: Moment) -> bool
     requires { IsSound one.now }
     ensures { result ≡ false → (t : ℤ) → Has one.now t → t ≤ℤ moment → (t <ℤ at) ⊎ ((t ≡ at) × (is_at_once ≡ false)) }
@@ -55,7 +55,7 @@ fn has_not_less(one: &Onsets, is_at_once: bool, at: Moment, moment: Moment) -> b
     after < limit && one.next(after, limit) < limit
 }
 
-// From where on an onset counts: after an instant, or from the greatest onset on if there is one.
+/// From where on an onset counts: after an instant, or from the greatest onset on if there is one.
 fn begun(latest: Option<Latest>, after: Moment) -> Moment
     ensures { MatchOption latest (result ≡ after) (λ l. after <ℤ l.at → result ≡ l.at -ℤ pos 1) }
 {
@@ -131,7 +131,7 @@ pub(crate) fn latest_of(onsets: &[Onsets], ago: i64, moment: Moment) -> Option<L
     latest_of_each(onsets, moment)
 }
 
-// The greatest onset that is not after an instant, by instant and then by place, from the last onset of each observance.
+/// The greatest onset that is not after an instant, by instant and then by place, from the last onset of each observance.
 fn latest_of_each(onsets: &[Onsets], moment: Moment) -> Option<Latest>
     requires { All IsSound onsets.now }
     ensures { (zone : List ObservanceSaid) → AreOnsetsOfAll zone onsets.now → IsLatestOf zone moment (length zone) result }

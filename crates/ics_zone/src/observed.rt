@@ -189,8 +189,8 @@ impl Observed {
         answers
     }
 
-    // Adds the instants of a group of locals, by spans whose onsets are no more than so many. How many spans there are. None if the onsets are more,
-    // or an allocation fails.
+    /// Adds the instants of a group of locals, by spans whose onsets are no more than so many. How many spans there are. None if the onsets are more,
+    /// or an allocation fails.
     fn answer_group(&self, locals: &[i64], most: usize, answers: &mut Vec<Answer>) -> Option<usize>
         requires some { 0 < length locals.now }
         requires answers { AreAnswers self.now.said.items answers.old.items }
@@ -272,7 +272,7 @@ impl Observed {
         }
     }
 
-    // Holds the spans of the blocks of days that reach from an instant to another, from the first onset of all on.
+    /// Holds the spans of the blocks of days that reach from an instant to another, from the first onset of all on.
     fn hold_blocks(&mut self, first: Moment, from: Moment, to: Moment)
         requires from { IsWithin 270_000_000_000 from }
         requires to { to ≤ℤ pos 270_000_000_000 }
@@ -289,7 +289,7 @@ impl Observed {
         }
     }
 
-    // Holds the spans from an instant on and up to another, unless the span about the first is held.
+    /// Holds the spans from an instant on and up to another, unless the span about the first is held.
     fn hold_block(&mut self, from: Moment, last: Moment)
         requires from { IsSearched from }
         requires last { IsSearched last }
@@ -310,7 +310,7 @@ impl Observed {
         }
     }
 
-    // Holds spans, as far as no allocation fails.
+    /// Holds spans, as far as no allocation fails.
     fn hold_each(&mut self, spans: &[Steady])
         requires { AreSteady (zone_offset self.old.said.items) spans.now }
         ensures { self.new ≡ self.old }
@@ -320,8 +320,8 @@ impl Observed {
         }
     }
 
-    // The spans from an instant on and up to another, unless their onsets are more than so many or an allocation fails. Onsets are listed from an
-    // instant on that may be earlier: if one is there, the first span begins with it.
+    /// The spans from an instant on and up to another, unless their onsets are more than so many or an allocation fails. Onsets are listed from an
+    /// instant on that may be earlier: if one is there, the first span begins with it.
     fn spans_between(
         &self,
         from: Moment,
@@ -342,7 +342,7 @@ impl Observed {
         Some(spans)
     }
 
-    // The span about an instant up to another, as a list. An empty one, if spans begin at that instant or before.
+    /// The span about an instant up to another, as a list. An empty one, if spans begin at that instant or before.
     fn first_span(&self, begin: Moment, near: Moment, last: Moment) -> Option<Vec<Steady>>
         requires near { IsSearched near }
         requires last { IsSearched last }
@@ -356,7 +356,7 @@ impl Observed {
         Some(spans)
     }
 
-    // Adds the span from each onset of a table of those that are not after an instant. The error means that an allocation failed.
+    /// Adds the span from each onset of a table of those that are not after an instant. The error means that an allocation failed.
     fn add_spans(
         &self,
         table: &[i64],
@@ -377,7 +377,7 @@ impl Observed {
         Ok(())
     }
 
-    // The spans from a day before one local to a day after another, given by their seconds.
+    /// The spans from a day before one local to a day after another, given by their seconds.
     fn spans_about(&self, first: i64, last: i64, most: usize) -> Option<Vec<Steady>>
         ensures { IfSome result (λ spans. AreSteady (zone_offset self.now.said.items) spans.items) }
     {
@@ -389,7 +389,7 @@ impl Observed {
         self.spans_between(near - DAY, near, last, most)
     }
 
-    // The span from an onset of a table of those that are not after an instant: to the next, or to the end of the table.
+    /// The span from an onset of a table of those that are not after an instant: to the next, or to the end of the table.
     fn span_from(&self, table: &[i64], k: usize, last: Moment) -> Steady
         requires last { IsSearched last }
         requires inside { k < length table.now }
@@ -405,7 +405,7 @@ impl Observed {
         }
     }
 
-    // Holds a span, if no allocation fails.
+    /// Holds a span, if no allocation fails.
     fn hold_span(&mut self, span: Steady)
         requires { IsSteady (zone_offset self.old.said.items) span.from span.next span.offset }
         ensures { self.new ≡ self.old }
@@ -413,14 +413,14 @@ impl Observed {
         self.held.push(span).ok();
     }
 
-    // Puts the held spans in order.
+    /// Puts the held spans in order.
     fn sort_held(&mut self)
         ensures { self.new ≡ self.old }
     {
         self.held.sort_unstable_by_key(|span| span.from);
     }
 
-    // Holds the spans from an instant on and up to another, some at a time, but only up to an earlier one if a span is long.
+    /// Holds the spans from an instant on and up to another, some at a time, but only up to an earlier one if a span is long.
     fn hold_from(&mut self, from: Moment, soon: Moment, to: Moment)
         requires from { IsSearched from }
         requires to { IsSearched to }
@@ -445,7 +445,7 @@ impl Observed {
         }
     }
 
-    // Holds the span about an instant, unless it is held. Each observance is asked for its next onset first, so that it is known.
+    /// Holds the span about an instant, unless it is held. Each observance is asked for its next onset first, so that it is known.
     fn hold_about(&mut self, near: Moment)
         requires { IsSearched near }
         ensures { self.new ≡ self.old }
@@ -457,7 +457,7 @@ impl Observed {
         self.hold(near);
     }
 
-    // Holds the span about an instant, if there is room for it and no allocation fails.
+    /// Holds the span about an instant, if there is room for it and no allocation fails.
     fn hold(&mut self, near: Moment)
         requires { IsSearched near }
         ensures { self.new ≡ self.old }
@@ -470,7 +470,7 @@ impl Observed {
         self.sort_held();
     }
 
-    // Looks for the next onset of each observance about an instant, so that it is known.
+    /// Looks for the next onset of each observance about an instant, so that it is known.
     fn look_about(&mut self, near: Moment)
         requires { IsSearched near }
         ensures { self.new ≡ self.old }
@@ -478,7 +478,7 @@ impl Observed {
         look_on(&mut self.onsets, near, near + AHEAD);
     }
 
-    // How many seconds the first spans for an instant have to reach ahead, so that more are made. Observances without rules have but few onsets.
+    /// How many seconds the first spans for an instant have to reach ahead, so that more are made. Observances without rules have but few onsets.
     fn first_ahead(&self) -> i64
         ensures low { pos 0 ≤ℤ result }
         ensures high { result ≤ℤ pos 86_400 }
@@ -491,7 +491,7 @@ impl Observed {
         0
     }
 
-    // A held span that reaches from one instant to another.
+    /// A held span that reaches from one instant to another.
     fn held_over(&self, from: Moment, to: Moment) -> Option<Steady>
         ensures some { 0 < length self.now.said.items }
         ensures over { IfSome result (λ s. (s.from ≤ℤ from) × (to <ℤ s.next)) }
@@ -509,7 +509,7 @@ impl Observed {
         }
     }
 
-    // The instant that a local means, given by its seconds, if the spans within a day of it are held.
+    /// The instant that a local means, given by its seconds, if the spans within a day of it are held.
     fn held_moment(&self, seconds: i64) -> Option<Moment>
         requires bound { IsMoment seconds }
         ensures { IfSome result (IsMomentOf self.now.said.items seconds) }
@@ -517,7 +517,7 @@ impl Observed {
         moment_in(&self.held, seconds)
     }
 
-    // The same by spans that are made for it and not held, in a zone of many observances. None if their onsets are too many or an allocation fails.
+    /// The same by spans that are made for it and not held, in a zone of many observances. None if their onsets are too many or an allocation fails.
     fn near_moment(&self, seconds: i64) -> Option<Moment>
         requires bound { IsMoment seconds }
         ensures { IfSome result (IsMomentOf self.now.said.items seconds) }
@@ -530,7 +530,7 @@ impl Observed {
         moment_in(&spans, seconds)
     }
 
-    // The span about an instant, from one onset to the next. Before all onsets it has no beginning.
+    /// The span about an instant, from one onset to the next. Before all onsets it has no beginning.
     fn steady_about(&self, near: Moment) -> Steady
         requires { IsSearched near }
         ensures { IsSteady (zone_offset self.now.said.items) result.from result.next result.offset }
@@ -550,7 +550,7 @@ impl Observed {
         }
     }
 
-    // The greatest onset that is not after an instant. It is at the instant, if the span before is held and ends there.
+    /// The greatest onset that is not after an instant. It is at the instant, if the span before is held and ends there.
     fn latest_about(&self, near: Moment) -> Option<Latest>
         requires { IsSearched near }
         ensures { IsLatestOf self.now.said.items near (length self.now.said.items) result }
@@ -564,7 +564,7 @@ impl Observed {
         latest_of(&self.onsets, self.ago, near)
     }
 
-    // The offset at an instant, by the observances. The place becomes that of the observance in force.
+    /// The offset at an instant, by the observances. The place becomes that of the observance in force.
     fn offset_of_latest(&self, moment: Moment, place: &mut usize) -> i32
         ensures means { IsOffset self.now.said.items moment result }
         ensures value { result ≡ zone_offset self.now.said.items moment }
@@ -578,7 +578,7 @@ impl Observed {
         }
     }
 
-    // Whether the zone has an offset at an instant. The hint is the place of an observance that was in force at another instant.
+    /// Whether the zone has an offset at an instant. The hint is the place of an observance that was in force at another instant.
     fn has_offset(&self, moment: Moment, offset: i32, hint: &mut usize) -> bool
         ensures { MatchBool result (zone_offset self.now.said.items moment ≡ offset) (zone_offset self.now.said.items moment ≢ offset) }
     {
@@ -591,7 +591,7 @@ impl Observed {
         self.offset_of_latest(moment, hint) == offset
     }
 
-    // The span from the greatest onset that is not after an instant up to that instant. If there is no such onset, it has no beginning.
+    /// The span from the greatest onset that is not after an instant up to that instant. If there is no such onset, it has no beginning.
     fn steady_to(&self, to: Moment) -> Steady
         requires { IsSearched to }
         ensures to { to <ℤ result.next }
@@ -612,7 +612,7 @@ impl Observed {
         }
     }
 
-    // A span that reaches from one instant to another. None if an onset is after the first and not after the second.
+    /// A span that reaches from one instant to another. None if an onset is after the first and not after the second.
     fn steady_over(&self, from: Moment, to: Moment) -> Option<Steady>
         requires { IsSearched to }
         ensures over { IfSome result (λ s. (s.from ≤ℤ from) × (to <ℤ s.next)) }
@@ -629,7 +629,7 @@ impl Observed {
         }
     }
 
-    // The instant of a local, if the offset does not change within a day of it.
+    /// The instant of a local, if the offset does not change within a day of it.
     fn steady_time(&self, seconds: i64) -> Option<Moment>
         requires bound { IsMoment seconds }
         ensures { IfSome result (IsFirstTime (zone_offset self.now.said.items) seconds) }
@@ -638,7 +638,7 @@ impl Observed {
         Some(seconds - i64::from(steady.offset))
     }
 
-    // The instant of a local on a clock with this offset, if the offset is the zone's then.
+    /// The instant of a local on a clock with this offset, if the offset is the zone's then.
     fn shown_with(&self, seconds: i64, offset: i32, hint: &mut usize) -> Option<Moment>
         requires bound { IsMoment seconds }
         ensures { MatchOption result
@@ -653,7 +653,7 @@ impl Observed {
         }
     }
 
-    // The first instant at which the clock shows a local, given by its seconds. Such an instant is the local less an offset of the zone.
+    /// The first instant at which the clock shows a local, given by its seconds. Such an instant is the local less an offset of the zone.
     fn first_time(&self, seconds: i64) -> Option<Moment>
         requires { IsMoment seconds }
         ensures { MatchOption result
@@ -678,7 +678,7 @@ impl Observed {
         first
     }
 
-    // Whether the clock shows, at an instant, a later local than this one, given by its seconds.
+    /// Whether the clock shows, at an instant, a later local than this one, given by its seconds.
     fn is_past(&self, seconds: i64, moment: Moment) -> bool
         requires { IsSearched moment }
         ensures { MatchBool result
@@ -688,8 +688,8 @@ impl Observed {
         moment + i64::from(self.offset(moment)) > seconds
     }
 
-    // An instant up to which the clock shows earlier locals than one, where it does up to another. Onsets that are overridden at their own
-    // instants are passed over.
+    /// An instant up to which the clock shows earlier locals than one, where it does up to another. Onsets that are overridden at their own
+    /// instants are passed over.
     fn clear_to(&self, seconds: i64, after: Moment) -> Moment
         requires bound { IsMoment seconds }
         requires low { (seconds -ℤ pos 86_400) ≤ℤ after }
@@ -704,7 +704,7 @@ impl Observed {
         (after + clear).min(seconds + DAY + 1)
     }
 
-    // The same, hour by hour as long as nothing but such onsets is in an hour.
+    /// The same, hour by hour as long as nothing but such onsets is in an hour.
     fn clear_hours(&self, seconds: i64, after: Moment) -> Moment
         requires bound { IsMoment seconds }
         requires low { (seconds -ℤ pos 86_400) ≤ℤ after }
@@ -726,7 +726,7 @@ impl Observed {
         at
     }
 
-    // The instant at which the clock jumps over a local that it never shows: the first onset that shows a later one.
+    /// The instant at which the clock jumps over a local that it never shows: the first onset that shows a later one.
     fn jump(&self, seconds: i64) -> Moment
         requires bound { IsMoment seconds }
         requires skipped { (t : ℤ) → shown (zone_offset self.now.said.items) t ≢ seconds }
@@ -746,7 +746,7 @@ impl Observed {
         after
     }
 
-    // The instant of a local that the clock skips: it is read with the offset before the gap.
+    /// The instant of a local that the clock skips: it is read with the offset before the gap.
     fn across_gap(&self, seconds: i64) -> Moment
         requires bound { IsMoment seconds }
         requires skipped { (t : ℤ) → shown (zone_offset self.now.said.items) t ≢ seconds }
@@ -757,7 +757,7 @@ impl Observed {
     }
 }
 
-// Whether there is a first instant, and it is not after a second.
+/// Whether there is a first instant, and it is not after a second.
 fn is_by(first: Option<Moment>, second: Moment) -> bool
     ensures { MatchOption first (result ≡ false) (λ f. result ≡ true → f ≤ℤ second) }
 {
@@ -767,7 +767,7 @@ fn is_by(first: Option<Moment>, second: Moment) -> bool
     }
 }
 
-// The earlier of two instants, of which the first may be none.
+/// The earlier of two instants, of which the first may be none.
 fn earlier(first: Option<Moment>, second: Moment) -> Moment
     ensures { MatchOption first (result ≡ second) (λ f. result ≡ int_min f second) }
 {
@@ -777,7 +777,7 @@ fn earlier(first: Option<Moment>, second: Moment) -> Moment
     }
 }
 
-// The onsets of each observance.
+/// The onsets of each observance.
 fn onsets_of(alloc: Global, observances: &[Observance]) -> Result<Vec<Onsets>, AllocError>
     requires { All IsObservance observances.now }
     ensures { IfOk result (λ onsets. AreOnsetsOfAll observances.now onsets.items) }
@@ -789,7 +789,7 @@ fn onsets_of(alloc: Global, observances: &[Observance]) -> Result<Vec<Onsets>, A
     Ok(all)
 }
 
-// The least number of seconds that the search for an onset of an observance goes back at first.
+/// The least number of seconds that the search for an onset of an observance goes back at first.
 fn least_ago(onsets: &[Onsets]) -> i64 {
     let mut ago = i64::MAX;
     for one in onsets {
@@ -798,14 +798,14 @@ fn least_ago(onsets: &[Onsets]) -> i64 {
     ago
 }
 
-// How many spans are made for one instant. They are more than usual, if a zone has many offsets: a local that is in no span is looked for
-// under each of them.
+/// How many spans are made for one instant. They are more than usual, if a zone has many offsets: a local that is in no span is looked for
+/// under each of them.
 fn spans_at_once(observances: usize, offsets: usize) -> usize {
     let most = LOOKED_AT / observances.max(1);
     offsets.saturating_mul(8).min(most).max(HELD_AT_ONCE)
 }
 
-// How many onsets of a zone are listed.
+/// How many onsets of a zone are listed.
 fn onsets_listed(observances: usize) -> usize {
     if observances > FEW {
         observances.saturating_mul(LISTED_OF_EACH).min(LISTED)
@@ -814,7 +814,7 @@ fn onsets_listed(observances: usize) -> usize {
     }
 }
 
-// The part of a span from an instant on and before another.
+/// The part of a span from an instant on and before another.
 fn clipped(span: Steady, from: Moment, end: Moment) -> Steady
     ensures from { result.from ≡ int_max span.from from }
     ensures next { result.next ≡ int_min span.next end }
@@ -827,7 +827,7 @@ fn clipped(span: Steady, from: Moment, end: Moment) -> Steady
     }
 }
 
-// The offsets before and after the onsets, each of them once, the greatest first.
+/// The offsets before and after the onsets, each of them once, the greatest first.
 fn offsets_of(alloc: Global, observances: &[Observance]) -> Result<Vec<i32>, AllocError>
     ensures { IfOk result (λ offsets. HaveOffsets offsets.items observances.now) }
 {
@@ -849,7 +849,7 @@ pub(crate) fn seconds_of(local: Local) -> i64
     i64::from(local.day) * DAY + i64::from(local.second)
 }
 
-// Whether one of the observances repeats more often than daily.
+/// Whether one of the observances repeats more often than daily.
 fn any_is_finer(observances: &[Observance]) -> bool
     ensures { result ≡ list_any has_finer_rule observances.now }
 {
@@ -858,7 +858,7 @@ fn any_is_finer(observances: &[Observance]) -> bool
         .any(|observance| is_finer_than_daily(observance))
 }
 
-// Whether an observance repeats more often than daily.
+/// Whether an observance repeats more often than daily.
 fn is_finer_than_daily(observance: &Observance) -> bool
     ensures { result ≡ has_finer_rule observance.now }
 {

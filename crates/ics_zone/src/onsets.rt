@@ -44,7 +44,7 @@ pub(crate) fn passed(listed: &[Moment], moment: Moment) -> usize
     listed.partition_point(|at| *at <= moment)
 }
 
-// How many numbers a part lists, or one if it is absent.
+/// How many numbers a part lists, or one if it is absent.
 fn size_of(part: BitSet) -> u64 {
     let mut size: u64 = 0;
     for n in 0..64_u8 {
@@ -55,7 +55,7 @@ fn size_of(part: BitSet) -> u64 {
     size.max(1)
 }
 
-// About how many seconds are between two onsets of a rule: a period, divided by the number of times of a day that the rule lists.
+/// About how many seconds are between two onsets of a rule: a period, divided by the number of times of a day that the rule lists.
 fn spacing(observance: &Observance) -> u64 {
     let Some(rule) = &observance.rule else {
         return u64::MAX;
@@ -76,8 +76,8 @@ fn spacing(observance: &Observance) -> u64 {
     period / times.max(1)
 }
 
-// Whether a rule goes by years and lists no days but weekdays, as those of most zones do. Such a rule is searched soon, whether or not it
-// matches.
+/// Whether a rule goes by years and lists no days but weekdays, as those of most zones do. Such a rule is searched soon, whether or not it
+/// matches.
 fn is_plain(parts: &Parts) -> bool {
     matches!(parts.frequency, Frequency::Yearly)
         & parts.weeks.is_empty()
@@ -86,15 +86,15 @@ fn is_plain(parts: &Parts) -> bool {
         & parts.positions.is_empty()
 }
 
-// UNTIL of a rule, if it is there and in UTC, and else a late instant.
+/// UNTIL of a rule, if it is there and in UTC, and else a late instant.
 fn until_of(rule: &Rule) -> Moment
     ensures { (t : ℤ) → t ≤ℤ pos 9_223_372_036_854_775_807 → is_until (until_moment rule.now) t ≡ int_le t result }
 {
     rule.until_moment().unwrap_or(Moment::MAX)
 }
 
-// The last instant at which a rule may have an onset: UNTIL, if it is there and in UTC, and the last onset by COUNT. It is DTSTART at most, if
-// the rule is asked and keeps no later local.
+/// The last instant at which a rule may have an onset: UNTIL, if it is there and in UTC, and the last onset by COUNT. It is DTSTART at most, if
+/// the rule is asked and keeps no later local.
 fn end_of(parts: &Parts, start: Local, offset_from: i32) -> Moment
     requires offset { IsWithin 86_399 offset_from }
     requires start { IsStampDay start.day }
@@ -114,7 +114,7 @@ fn end_of(parts: &Parts, start: Local, offset_from: i32) -> Moment
     }
 }
 
-// The rule of an observance, from its DTSTART on and without COUNT, and the last instant at which it may have an onset.
+/// The rule of an observance, from its DTSTART on and without COUNT, and the last instant at which it may have an onset.
 fn rule_of(observance: &Observance) -> (Option<Rule>, Moment)
     requires { IsObservance observance.now }
     ensures rule { result.0 ≡ option_map (held_rule observance.now.start) observance.now.rule }
@@ -132,7 +132,7 @@ fn rule_of(observance: &Observance) -> (Option<Rule>, Moment)
     )
 }
 
-// The instants of DTSTART and of the RDATEs, in order.
+/// The instants of DTSTART and of the RDATEs, in order.
 fn listed(alloc: Global, observance: &Observance) -> Result<Vec<Moment>, AllocError>
     requires { IsObservance observance.now }
     ensures { IfOk result (λ listed. IsListing observance.now listed.items) }
@@ -195,7 +195,7 @@ impl Onsets {
         self.listed[0]
     }
 
-    // The last listed onset that is not after an instant.
+    /// The last listed onset that is not after an instant.
     fn last_listed(&self, moment: Moment) -> Option<Moment>
         requires { IsSound self.now }
         ensures { IsLastOf (Contains self.now.listed.items) moment result }
@@ -216,7 +216,7 @@ impl Onsets {
         shown_by(self.offset_from, moment.min(self.until))
     }
 
-    // The last onset of the rule that is not after an instant.
+    /// The last onset of the rule that is not after an instant.
     fn last_by_rule(&self, moment: Moment) -> Option<Moment>
         requires { IsSound self.now }
         ensures { IsLastOf (IsKeptAt self.now) moment result }
@@ -246,7 +246,7 @@ impl Onsets {
         }
     }
 
-    // The last onset of the rule that is not after an instant, if it is after another.
+    /// The last onset of the rule that is not after an instant, if it is after another.
     fn last_by_rule_after(&self, after: Moment, moment: Moment) -> Option<Moment>
         requires { IsSound self.now }
         ensures { IsLastAfter (IsKeptAt self.now) after moment result }
@@ -261,7 +261,7 @@ impl Onsets {
         if last > after { Some(last) } else { None }
     }
 
-    // The last listed onset that is not after an instant, if it is after another.
+    /// The last listed onset that is not after an instant, if it is after another.
     fn last_listed_after(&self, after: Moment, moment: Moment) -> Option<Moment>
         requires { IsSound self.now }
         ensures { IsLastAfter (Contains self.now.listed.items) after moment result }
@@ -291,7 +291,7 @@ impl Onsets {
         }
     }
 
-    // The first onset of the rule after an instant, or the limit if there is none before it.
+    /// The first onset of the rule after an instant, or the limit if there is none before it.
     pub fn next_by_rule(&self, after: Moment, limit: Moment) -> Moment
         requires sound { IsSound self.now }
         requires limit { after <ℤ limit }
@@ -311,7 +311,7 @@ impl Onsets {
         }
     }
 
-    // The first listed onset after an instant, or the limit if there is none before it.
+    /// The first listed onset after an instant, or the limit if there is none before it.
     pub fn next_listed(&self, after: Moment, limit: Moment) -> Moment
         requires sound { IsSound self.now }
         requires limit { after <ℤ limit }

@@ -59,7 +59,7 @@ pub trait Place {
     ghost moment_near: { (place : Self) (local : ℤ) → IsNear (moment_at place local -ℤ local) };
 }
 
-// The local with these seconds.
+/// The local with these seconds.
 fn local_of(seconds: i64) -> Local
     requires { IsBetween (neg_ℤ (pos 100_000_000_000_000)) (pos 100_000_000_000_000) seconds }
     ensures { seconds_at result.day result.second ≡ seconds }

@@ -46,7 +46,7 @@ pub(crate) fn are_ready(locals: &[i64], from: Moment) -> bool
     true
 }
 
-// Carries on what is known of the locals from a place on and before another by one more span.
+/// Carries on what is known of the locals from a place on and before another by one more span.
 fn see_each(span: &Steady, before: i32, locals: &[i64], begin: usize, end: usize, seen: &mut [Seen])
     requires span { span.now.from <ℤ span.now.next }
     requires end { end ≤ length locals.now }
@@ -62,7 +62,7 @@ fn see_each(span: &Steady, before: i32, locals: &[i64], begin: usize, end: usize
     }
 }
 
-// Carries on what is known of locals by one more span. None if it does not begin where the last ends.
+/// Carries on what is known of locals by one more span. None if it does not begin where the last ends.
 fn reach_on(span: &Steady, reach: &Reach, locals: &[i64], seen: &mut [Seen]) -> Option<Reach>
     requires length { length seen.old ≡ length locals.now }
     requires ready { (from : ℤ) × AreReady from locals.now }

@@ -3,7 +3,7 @@ ghost use Rattle.std.specs.Prelude.{◌≡◌, ℕ, ℤ, pos, true, ◌<◌, ◌
 ghost use Rattle.std.specs.List.{All, Contains};
 ghost use Rattle.jiff_core.specs.Calendar.{IsWithin};
 ghost use Rattle.ics_rule.specs.Kept.{is_kept};
-ghost use Rattle.ics_rule.specs.PeriodNumbers.{rules_end};
+ghost use Rattle.ics_period.specs.PeriodNumbers.{rules_end};
 ghost use Rattle.ics_zone.specs.Observances.{ObservanceSaid, instant_by};
 ghost use Rattle.ics_zone.specs.Inner.OnsetSets.{Has, IsKeptAt, IsSearched, IsSound};
 ghost use Rattle.ics_zone.specs.Inner.ZoneOnsets.{AreOnsetsOfAll};
@@ -18,7 +18,7 @@ use std::alloc::Global;
 /// How many places of observances have a number of their own at an instant.
 const PLACES: i64 = 16_777_216;
 
-// The number of an onset.
+/// The number of an onset.
 fn number_of(at: Moment, place: usize) -> i64
     requires at { IsSearched at }
     requires place { place < 16_777_216 }
@@ -59,7 +59,7 @@ pub(crate) fn first_instant(table: &[i64], last: Moment) -> Moment {
     }
 }
 
-// Adds the number of an onset to a list of so many numbers at most. Whether it has room for it.
+/// Adds the number of an onset to a list of so many numbers at most. Whether it has room for it.
 fn add_onset(at: Moment, place: usize, most: usize, list: &mut Vec<i64>) -> bool
     requires at { IsSearched at }
     requires place { place < 16_777_216 }
@@ -72,8 +72,8 @@ fn add_onset(at: Moment, place: usize, most: usize, list: &mut Vec<i64>) -> bool
     list.push(number).is_ok()
 }
 
-// Adds the numbers of the listed onsets of one observance from an instant on and not after another to a list of so many numbers at most. Whether
-// it has room for them.
+/// Adds the numbers of the listed onsets of one observance from an instant on and not after another to a list of so many numbers at most. Whether
+/// it has room for them.
 fn add_listed(
     one: &Onsets,
     place: usize,
@@ -104,8 +104,8 @@ fn add_listed(
     true
 }
 
-// Adds the numbers of the locals that a rule keeps, from one on and before another, as onsets of the observance at a place, to a list of so many
-// numbers at most. Whether it has room for them.
+/// Adds the numbers of the locals that a rule keeps, from one on and before another, as onsets of the observance at a place, to a list of so many
+/// numbers at most. Whether it has room for them.
 fn add_locals(
     rule: &Rule,
     offset: i32,
@@ -135,7 +135,7 @@ fn add_locals(
     true
 }
 
-// The same of the onsets by its rule, as `add_listed` adds those that are listed.
+/// The same of the onsets by its rule, as `add_listed` adds those that are listed.
 fn add_kept(
     one: &Onsets,
     place: usize,
@@ -160,7 +160,7 @@ fn add_kept(
     add_locals(rule, one.offset_from, begin, end, place, most, list)
 }
 
-// The same of all its onsets.
+/// The same of all its onsets.
 fn add_onsets(
     one: &Onsets,
     place: usize,

@@ -1,7 +1,7 @@
 //! The times of an hour that a rule keeps.
 ghost use Rattle.std.specs.Prelude.{◌≡◌, ℕ, ◌+◌, ◌*◌, ◌<◌, ◌&&◌, true, false};
 ghost use Rattle.ics_fields.specs.Sets.{contains};
-ghost use Rattle.ics_rule.specs.PeriodNumbers.{minute_of, second_of};
+ghost use Rattle.ics_period.specs.PeriodNumbers.{minute_of, second_of};
 ghost use Rattle.ics_zone.specs.Inner.Hours.{keeps_time};
 
 use crate::sixty::word_of;

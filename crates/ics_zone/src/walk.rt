@@ -55,7 +55,7 @@ pub(crate) fn walk_to(seconds: i64) -> Walk
     }
 }
 
-// The gap, if it is known or a span begins with a later local. The span shows the local at the instant, if it reaches so far.
+/// The gap, if it is known or a span begins with a later local. The span shows the local at the instant, if it reaches so far.
 fn gap_of(seconds: i64, walk: &Walk, moment: Moment) -> Option<Moment>
     requires { IsMoment seconds }
     ensures { MatchOption walk.now.gap

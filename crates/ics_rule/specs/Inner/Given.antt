@@ -2,9 +2,9 @@
 use Rattle.std.specs.Prelude.{if◌then◌else◌}
 use Rattle.ics_fields.specs.Ordinals.{no_ordinals, no_weekdays}
 use Rattle.ics_fields.specs.RuleParts.{RuleParts}
-use Rattle.ics_rule.specs.declared.effective_rule.EffectiveRule.{EffectiveRule}
+use Rattle.ics_period.specs.declared.effective_rule.EffectiveRule.{EffectiveRule}
 use Rattle.ics_rule.specs.declared.given.Given.{Given}
-use Rattle.ics_rule.specs.EffectiveRules.{takes_month, takes_month_day, takes_weekday}
+use Rattle.ics_period.specs.EffectiveRules.{takes_month, takes_month_day, takes_weekday}
 
 -- what is kept of parts beside those that the rule searches by
 abbrev pub given_of : RuleParts → Given

@@ -2,7 +2,7 @@
 use Rattle.std.specs.Prelude.{◌≡◌, ℕ, ◌<◌, ◌≤◌, ◌+◌, ◌*◌, true, false}
 use Rattle.ics_fields.specs.Sets.{contains, is_empty}
 use Rattle.ics_rule.specs.declared.hour.HourTimes.{HourTimes}
-use Rattle.ics_rule.specs.Recurrence.{Recurrence}
+use Rattle.ics_period.specs.Recurrence.{Recurrence}
 use Rattle.ics_rule.specs.Kept.{is_kept}
 use Rattle.ics_rule.specs.Next.{IsNextKept}
 use Rattle.ics_fields.specs.Locals.{number}

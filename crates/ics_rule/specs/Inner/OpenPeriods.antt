@@ -3,12 +3,12 @@ use Rattle.std.specs.Prelude.{ℕ, ◌*◌, ◌/◌, Bool, not, true, false, ◌
 use Rattle.ics_fields.specs.declared.frequency.Frequency.{Frequency}
 use Rattle.ics_fields.specs.declared.frequency.Frequency.TheVariants.{Secondly, Minutely, Hourly, Daily, Weekly, Monthly, Yearly}
 use Rattle.ics_fields.specs.Ordinals.{lists_none_wide}
-use Rattle.ics_rule.specs.declared.effective_rule.EffectiveRule.{EffectiveRule}
-use Rattle.ics_rule.specs.PeriodNumbers.{hour_of, minute_of, second_of}
-use Rattle.ics_rule.specs.EffectiveRules.{skips_hours, skips_minutes, skips_seconds}
-use Rattle.ics_rule.specs.Candidates.{lets, lets_date, is_stepped}
-use Rattle.ics_rule.specs.Kept.{count}
-use Rattle.ics_rule.specs.RecurrencePeriods.{is_listed}
+use Rattle.ics_period.specs.declared.effective_rule.EffectiveRule.{EffectiveRule}
+use Rattle.ics_period.specs.PeriodNumbers.{hour_of, minute_of, second_of}
+use Rattle.ics_period.specs.EffectiveRules.{skips_hours, skips_minutes, skips_seconds}
+use Rattle.ics_period.specs.Candidates.{lets, lets_date, is_stepped}
+use Rattle.ics_period.specs.Ranks.{count}
+use Rattle.ics_period.specs.RecurrencePeriods.{is_listed}
 use Rattle.ics_rule.specs.Inner.Rounds.{seconds_of}
 
 -- how many periods a day has

@@ -5,16 +5,16 @@ use Rattle.ics_fields.specs.declared.frequency.Frequency.{Frequency}
 use Rattle.ics_fields.specs.declared.frequency.Frequency.TheVariants.{Secondly, Minutely, Hourly, Daily, Weekly, Monthly, Yearly}
 use Rattle.ics_fields.specs.Sets.{contains}
 use Rattle.ics_fields.specs.Ordinals.{lists_no_weekday}
-use Rattle.ics_rule.specs.declared.effective_rule.EffectiveRule.{EffectiveRule}
-use Rattle.ics_rule.specs.declared.recurrence_period.RecurrencePeriod.{RecurrencePeriod}
+use Rattle.ics_period.specs.declared.effective_rule.EffectiveRule.{EffectiveRule}
+use Rattle.ics_period.specs.declared.recurrence_period.RecurrencePeriod.{RecurrencePeriod}
 use Rattle.ics_rule.specs.declared.cursor.Cursor.{Cursor}
-use Rattle.ics_rule.specs.PeriodNumbers.{day_of, rules_end}
-use Rattle.ics_rule.specs.Candidates.{lets_date, lets_clock, is_stepped, period_in}
-use Rattle.ics_rule.specs.Kept.{count, is_chosen}
-use Rattle.ics_rule.specs.RecurrencePeriods.{first_local}
+use Rattle.ics_period.specs.PeriodNumbers.{day_of, rules_end}
+use Rattle.ics_period.specs.Candidates.{lets_date, lets_clock, is_stepped, period_in}
+use Rattle.ics_period.specs.Ranks.{count, is_chosen}
+use Rattle.ics_period.specs.RecurrencePeriods.{first_local}
 use Rattle.ics_rule.specs.Cursors.{IsCursorIn}
 use Rattle.ics_rule.specs.Inner.Searches.{HasMoved, IsWalked, IsTurned}
-use Rattle.ics_rule.specs.Inner.Runs.{goes_by_months}
+use Rattle.ics_period.specs.Runs.{goes_by_months}
 
 -- how many seconds each period of a frequency has, or 0 if they differ
 abbrev pub seconds_of : Frequency → ℕ

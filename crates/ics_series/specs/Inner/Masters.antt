@@ -7,12 +7,12 @@ use Rattle.ics_listing.specs.declared.window.Window.{Window}
 use Rattle.ics_listing.specs.FileClocks.{Clock}
 use Rattle.ics_listing.specs.Entry.{Entry, Rank, entry_cmp}
 use Rattle.ics_listing.specs.Listing.{IsIn, IsListing}
-use Rattle.ics_series.specs.Meets.{Meets}
+use Rattle.ics_starts.specs.MeetsWindow.{Meets}
 use Rattle.ics_listing.specs.After.{is_after}
-use Rattle.ics_series.specs.Occurs.{IsOf}
+use Rattle.ics_starts.specs.Instances.{IsOf}
 use Rattle.ics_series.specs.PlacedEvents.{clocks_at}
 use Rattle.ics_listing.specs.Rising.{Rises}
-use Rattle.ics_series.specs.Singles.{is_single}
+use Rattle.ics_starts.specs.SingleEvents.{is_single}
 use Rattle.ics_listing.specs.FeedSources.{Recurring, Source}
 use Rattle.ics_series.specs.Sources.{uid_cmp, IsFrom}
 use Rattle.ics_listing.specs.FeedSources.Source.{Of}
@@ -38,6 +38,12 @@ abbrev pub IsSince : Option Rank → List ℕ → ℤ → Type 0
 IsSince after uid since =
     (o : Entry) → o.event.uid ≡ uid → o.recurrence ≡ o.start → occurrence_first ≤ℤ o.start → o.start <ℤ window_last
     → is_after after o ≡ int_le since o.start
+
+-- of the occurrences of a version's event that begin before the window's end, those that begin at this instant or later come after the key
+abbrev pub IsBehind : List FileSaid → Clock → Window → Option Rank → Label → ℤ → Type 0
+IsBehind files display w after l since =
+    (r : Recurs files l) (o : Entry) → IsOf (clocks_at files display l.spot.file) r.event o → o.start <ℤ w.to
+    → (occurrence_first ≤ℤ o.start) × (is_after after o ≡ int_le since o.start)
 
 -- the list is that of the occurrences of one of these versions
 pub record IsOneOf (files : List FileSaid) (display : Clock) (w : Window) (after : Option Rank) (labels : List Label) (list : List Entry) : Type 0 where

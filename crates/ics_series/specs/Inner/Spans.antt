@@ -1,24 +1,25 @@
 -- From when to when the events of a folder are, so that they need not be read for a window that they cannot meet.
-use Rattle.std.specs.Prelude.{◌≡◌, ◌⊎◌, ◌<ℤ◌, ◌≤ℤ◌, ℕ, ℤ, pos, negsuc, Bool, true, false, ◌&&◌, not, int_le, int_lt, if◌then◌else◌, List, [], ◌∷◌, length}
+use Rattle.std.specs.Prelude.{◌≡◌, ◌⊎◌, ◌<ℤ◌, ◌≤ℤ◌, ◌-ℤ◌, ℕ, ℤ, pos, negsuc, Bool, true, false, ◌&&◌, not, int_le, int_lt, if◌then◌else◌, List, [], ◌∷◌, length}
 use Rattle.std.specs.Prelude.{slice_get}
 use Rattle.std.specs.Prelude.{Option, Some, None}
 use Rattle.std.specs.Int.{int_min}
+use Rattle.std.specs.Option.{unwrap_or}
 use Rattle.ics_file.specs.File.{FileSaid}
 use Rattle.ics_event.specs.declared.event.Event.{Event}
 use Rattle.ics_values.specs.declared.time.Rdate.TheVariants.{At}
 use Rattle.ics_series.specs.declared.span.Span.{Span}
 use Rattle.ics_listing.specs.declared.window.Window.{Window}
 use Rattle.ics_listing.specs.FileClocks.{Clock, Clocks}
-use Rattle.ics_series.specs.Clocks.{instant}
-use Rattle.ics_listing.specs.Entry.{Entry, Rank}
-use Rattle.ics_series.specs.Finish.{finish}
-use Rattle.ics_series.specs.Inner.Quiet.{IsQuietTo}
+use Rattle.ics_starts.specs.Clocks.{instant}
+use Rattle.ics_listing.specs.Entry.{Entry}
+use Rattle.ics_starts.specs.Finish.{finish}
+use Rattle.ics_starts.specs.Quiet.{IsQuietTo}
 use Rattle.ics_listing.specs.WindowMeeting.{is_met}
-use Rattle.ics_series.specs.Meets.{Meets}
-use Rattle.ics_series.specs.Occurs.{IsOf}
+use Rattle.ics_starts.specs.MeetsWindow.{Meets}
+use Rattle.ics_starts.specs.Instances.{IsOf}
 use Rattle.ics_listing.specs.DayKeys.{IsNearDay}
 use Rattle.ics_series.specs.PlacedEvents.{clocks_at}
-use Rattle.ics_series.specs.Singles.{entry_first, is_single}
+use Rattle.ics_starts.specs.SingleEvents.{entry_first, is_single}
 use Rattle.ics_series.specs.Spots.{event_at}
 use Rattle.ics_series.specs.Versions.{Label}
 
@@ -57,16 +58,25 @@ is_out_of (Some s) w = not (can_meet s w)
 abbrev pub is_out : List Span → ℕ → Window → Bool
 is_out spans place w = is_out_of (slice_get spans place) w
 
--- no occurrence of the event meets a window: of one that starts once that at its DTSTART, whatever instance that is
-pub record NoneMeets (clocks : Clocks) (event : Event) (w : Window) : Type 0 where
-  pub once : is_single event ≡ true → (r : Option ℤ) → is_met w (entry_first clocks event r) ≡ false
-  pub each : is_single event ≡ false → (o : Entry) → IsOf clocks event o → Meets w o → ⊥
+-- an occurrence begins at an instant or later, if there is one
+abbrev pub IsStartedBy : Option ℤ → Entry → Type 0
+IsStartedBy None o = Unit {0}
+IsStartedBy (Some floor) o = floor ≤ℤ o.start
 
--- if the span at a place cannot meet a window, no occurrence does of the version there
-abbrev pub AreSpans : List FileSaid → Clock → Window → List Label → List Span → Type 0
-AreSpans files display w labels spans =
+-- where what began before a window is left out, an instant just before it
+abbrev pub floor_of : Window → Option ℤ
+floor_of w = if w.notstarted then Some (w.from -ℤ pos 1) else None
+
+-- No occurrence of the event from an instant on meets a window: of one that starts once that at its DTSTART, whatever instance that is.
+pub record NoneMeets (clocks : Clocks) (event : Event) (w : Window) (floor : Option ℤ) : Type 0 where
+  pub once : is_single event ≡ true → (r : Option ℤ) → is_met w (entry_first clocks event r) ≡ false
+  pub each : is_single event ≡ false → (o : Entry) → IsOf clocks event o → Meets w o → IsStartedBy floor o → ⊥
+
+-- if the span at a place cannot meet a window, no occurrence does of the version there from an instant on
+abbrev pub AreSpans : List FileSaid → Clock → Window → Option ℤ → List Label → List Span → Type 0
+AreSpans files display w floor labels spans =
     (k : ℕ) (s : Span) (l : Label) (event : Event) → slice_get spans k ≡ Some s → slice_get labels k ≡ Some l → event_at files l.spot ≡ Some event
-    → can_meet s w ≡ false → NoneMeets (clocks_at files display l.spot.file) event w
+    → can_meet s w ≡ false → NoneMeets (clocks_at files display l.spot.file) event w floor
 
 -- a window begins no earlier than another, of the same kind
 pub record IsLater (w n : Window) : Type 0 where
@@ -74,13 +84,13 @@ pub record IsLater (w n : Window) : Type 0 where
   pub same : w.notstarted ≡ n.notstarted
 
 -- as many spans as before are still those of the versions, for each window that begins no earlier than this one
-pub record AreMovedOn (files : List FileSaid) (display : Clock) (w : Window) (labels : List Label) (old new : List Span) : Type 0 where
+pub record AreMovedOn (files : List FileSaid) (display : Clock) (w : Window) (floor : Option ℤ) (labels : List Label) (old new : List Span) : Type 0 where
   pub size : length new ≡ length old
-  pub still : (n : Window) → IsLater w n → AreSpans files display n labels old → AreSpans files display n labels new
+  pub still : (n : Window) → IsLater w n → AreSpans files display n floor labels old → AreSpans files display n floor labels new
 
--- they are so for what a window holds near each day after one
+-- they are so for what is listed of what a window holds near each day after one
 abbrev pub AreSpansAfter : List FileSaid → Clock → Window → ℤ → List Label → List Span → Type 0
-AreSpansAfter files display w day labels spans = (x : ℤ) (n : Window) → day <ℤ x → IsNearDay w x n → AreSpans files display n labels spans
+AreSpansAfter files display w day labels spans = (x : ℤ) (n : Window) → day <ℤ x → IsNearDay w x n → AreSpans files display n (floor_of w) labels spans
 
 -- what is known of the occurrences from a window's end on, if none meets it
 pub record IsRest (clocks : Clocks) (event : Event) (w : Window) (since : ℤ) (s : Span) : Type 0 where
@@ -93,18 +103,18 @@ IsSpanPut old place span new =
     (length new ≡ length old)
     × ((k : ℕ) (s : Span) → slice_get new k ≡ Some s → (slice_get old k ≡ Some s) ⊎ ((k ≡ place) × (s ≡ span)))
 
--- of a listing without a key that has nothing, the span at a place is the rest
-pub record IsPutOff (clocks : Clocks) (event : Event) (w : Window) (since : ℤ) (after : Option Rank) (coming : List Entry) (old : List Span) (place : ℕ)
+-- of a series that begins by an instant and has nothing to come, the span at a place is the rest
+pub record IsPutOff (clocks : Clocks) (event : Event) (w : Window) (since : ℤ) (floor : Option ℤ) (coming : List Entry) (old : List Span) (place : ℕ)
     (new : List Span) : Type 0 where
-  pub none : after ≡ None
+  pub low : since ≤ℤ unwrap_or floor (negsuc 9_223_372_036_854_775_807)
   pub empty : coming ≡ []
   pub span : Span
   pub rest : IsRest clocks event w since span
   pub put : IsSpanPut old place span new
 
 -- it is so, or the spans are those from before
-abbrev pub IsMovedOn : Clocks → Event → Window → ℤ → Option Rank → List Entry → List Span → ℕ → List Span → Type 0
-IsMovedOn clocks event w since after coming old place new = (new ≡ old) ⊎ IsPutOff clocks event w since after coming old place new
+abbrev pub IsMovedOn : Clocks → Event → Window → ℤ → Option ℤ → List Entry → List Span → ℕ → List Span → Type 0
+IsMovedOn clocks event w since floor coming old place new = (new ≡ old) ⊎ IsPutOff clocks event w since floor coming old place new
 
 -- the least of an instant and of the beginnings of those spans that do not end before `from`
 abbrev pub first_of : ℤ → ℤ → List Span → ℤ

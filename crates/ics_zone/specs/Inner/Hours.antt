@@ -1,8 +1,8 @@
 -- What a rule keeps in two hours that follow each other.
 use Rattle.std.specs.Prelude.{◌≡◌, ℕ, ◌+◌, ◌<◌, ◌≤◌, ◌/◌, Bool, ◌&&◌, ◌==◌, if◌then◌else◌, Some, IfSome, Option, ℤ, ◌<ℤ◌}
 use Rattle.ics_fields.specs.Sets.{contains}
-use Rattle.ics_rule.specs.Recurrence.{Recurrence}
-use Rattle.ics_rule.specs.PeriodNumbers.{minute_of, second_of, rules_end}
+use Rattle.ics_period.specs.Recurrence.{Recurrence}
+use Rattle.ics_period.specs.PeriodNumbers.{minute_of, second_of, rules_end}
 use Rattle.ics_rule.specs.Kept.{is_kept}
 use Rattle.ics_zone.specs.declared.hours.Hours.{Hours}
 use Rattle.ics_zone.specs.declared.onsets.Onsets.{Onsets}

@@ -1,7 +1,7 @@
 -- The last of a set of kept locals, and of instants.
 use Rattle.std.specs.Prelude.{◌≡◌, ℕ, ◌+◌, ◌<◌, ◌≤◌, true, List, length, Option, MatchOption, slice_index_or, ℤ, ◌<ℤ◌, ◌≤ℤ◌}
 use Rattle.std.specs.List.{AllWithin}
-use Rattle.ics_rule.specs.Recurrence.{Recurrence}
+use Rattle.ics_period.specs.Recurrence.{Recurrence}
 use Rattle.ics_rule.specs.Kept.{is_kept}
 use Rattle.ics_rule.specs.Next.{NoneKept}
 use Rattle.ics_zone.specs.declared.kept.Known.{Known}

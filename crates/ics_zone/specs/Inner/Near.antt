@@ -25,7 +25,7 @@ jiff_offset_near (Table table) t = near _ (file_offset_short table t)
 pub jiff_moment_near : (zone : JiffZone) (local : ℤ) → IsNear (said_moment (jiff_said zone) local -ℤ local)
 unfolding said_moment jiff_said
 jiff_moment_near (Fixed offset) local = near_back local _ offset.in_range
-jiff_moment_near (Posix rule) local = near_back local _ (rule_short rule.std_offset rule.dst (nanos_of_seconds local))
+jiff_moment_near (Posix rule) local = near_back local _ (rule_short rule (nanos_of_seconds local))
 jiff_moment_near (Table table) local = near_back local _ (file_reading_short table local)
 
 -- the same of a display zone

@@ -4,14 +4,14 @@ use Rattle.std.specs.List.{Contains, list_any}
 use Rattle.jiff_core.specs.Calendar.{IsWithin}
 use Rattle.ics_fields.specs.RuleParts.{RuleParts}
 use Rattle.ics_fields.specs.declared.local.Local.{Local}
-use Rattle.ics_rule.specs.Recurrence.{Recurrence}
+use Rattle.ics_period.specs.Recurrence.{Recurrence}
 use Rattle.ics_rule.specs.CountBounds.{without_count}
 use Rattle.ics_rule.specs.Kept.{is_kept, until_moment}
 use Rattle.ics_fields.specs.Locals.{number}
 use Rattle.ics_zone.specs.declared.onsets.Onsets.{Onsets}
 use Rattle.ics_zone.specs.Observances.{ObservanceSaid, instant_by, is_until, is_onset, rule_from}
 use Rattle.ics_zone.specs.Inner.Latest.{IsInOrder}
-use Rattle.ics_rule.specs.PeriodNumbers.{rules_end}
+use Rattle.ics_period.specs.PeriodNumbers.{rules_end}
 
 -- an instant or a local about which onsets are searched for: about 9,500 years either way, so that the years 0000 to 9950 have room on both sides
 abbrev pub IsSearched : ℤ → Type 0

@@ -1,5 +1,5 @@
 use Rattle.std.proofs.Common.{◌∙◌, ap, sym, arith}
-use Rattle.ics_rule.specs.EffectiveRules.{effective}
+use Rattle.ics_period.specs.EffectiveRules.{effective}
 use Rattle.ics_rule.proofs.HourLemmas.{left_out}
 use Rattle.ics_rule.proofs.hour.first_of_hour.Goals as goal
 

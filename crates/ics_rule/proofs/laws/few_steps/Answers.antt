@@ -2,7 +2,7 @@ use Rattle.std.proofs.Common.{ℕ, ◌≤◌, List, [], ◌∷◌, Option, Some,
 use Rattle.std.specs.Option.{option_map}
 use Rattle.ics_fields.specs.declared.local.Local.{Local}
 use Rattle.ics_rule.specs.declared.cursor.Cursor.{Cursor}
-use Rattle.ics_rule.specs.Recurrence.{Recurrence}
+use Rattle.ics_period.specs.Recurrence.{Recurrence}
 use Rattle.ics_fields.specs.Locals.{number}
 use Rattle.ics_rule.specs.Cursors.{known_to, looks_from, HasLooked, IsCursorOf}
 use Rattle.ics_rule.specs.Calls.{AreCalls, Call, IsAnswer}

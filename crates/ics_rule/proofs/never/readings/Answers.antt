@@ -1,7 +1,7 @@
 use Rattle.std.proofs.Common.{◌∙◌}
 use Rattle.ics_fields.specs.Sets.{contains}
-use Rattle.ics_rule.specs.Candidates.{lets}
-use Rattle.ics_rule.proofs.Counts.{count-same}
+use Rattle.ics_period.specs.Candidates.{lets}
+use Rattle.ics_period.proofs.Counts.{count-same}
 use Rattle.ics_rule.proofs.never.readings.Goals as goal
 
 pub returns-clause-value : goal.returns-clause-value

@@ -1,6 +1,6 @@
 use Rattle.std.proofs.Common.{◌-◌}
-use Rattle.ics_rule.specs.Candidates.{lets_date}
-use Rattle.ics_rule.specs.Inner.NearDays.{AreNear}
+use Rattle.ics_period.specs.Candidates.{lets_date}
+use Rattle.ics_period.specs.NearDays.{AreNear}
 use Rattle.ics_rule.proofs.OpenLemmas.{IsStepWalk}
 use Rattle.ics_rule.proofs.open_periods.days_let_in.Given as goal
 

@@ -1,11 +1,11 @@
 -- The periods of a day or less that a rule lets in repeat with the calendar.
 use Rattle.std.proofs.Common.{◌≡◌, ℕ, zero, suc, ◌+◌, ◌*◌, ◌/◌, ◌<◌, ◌≤◌, Bool, ap, ◌∙◌, arith, ◌-◌}
 use Rattle.ics_fields.specs.declared.frequency.Frequency.{Frequency}
-use Rattle.ics_rule.specs.declared.effective_rule.EffectiveRule.{EffectiveRule}
-use Rattle.ics_rule.specs.Kept.{count}
+use Rattle.ics_period.specs.declared.effective_rule.EffectiveRule.{EffectiveRule}
+use Rattle.ics_period.specs.Ranks.{count}
 use Rattle.ics_rule.specs.Inner.Rounds.{seconds_of, calendar_periods, IsCalendarRound}
 use Rattle.ics_rule.specs.Inner.OpenPeriods.{per_day, is_open_period}
-use Rattle.ics_rule.proofs.Counts.{count-same, count-add, count_most}
+use Rattle.ics_period.proofs.Counts.{count-same, count-add, count_most}
 use Rattle.ics_rule.proofs.RoundLemmas.{repeats_often}
 use Rattle.ics_rule.proofs.OpenLemmas.{own_day}
 use Rattle.ics_rule.proofs.CycleLemmas.{date_again}

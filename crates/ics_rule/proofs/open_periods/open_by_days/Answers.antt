@@ -1,7 +1,7 @@
 use Rattle.std.proofs.lemmas.Grind.{common_steps}
 use Rattle.std.proofs.Common.{arith}
 use Rattle.std.proofs.lemmas.Nat.{div-add-mod'}
-use Rattle.ics_rule.proofs.Counts.{count_most}
+use Rattle.ics_period.proofs.Counts.{count_most}
 use Rattle.ics_rule.proofs.OpenLemmas.{day_seconds}
 use Rattle.ics_rule.proofs.open_periods.open_by_days.Goals as goal
 

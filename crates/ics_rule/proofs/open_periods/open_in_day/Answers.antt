@@ -1,5 +1,5 @@
 use Rattle.std.proofs.Common.{◌≡◌, ◌∙◌, ◌/◌, ap, sym}
-use Rattle.ics_rule.specs.Candidates.{lets_date}
+use Rattle.ics_period.specs.Candidates.{lets_date}
 use Rattle.ics_rule.specs.Inner.OpenPeriods.{per_day}
 use Rattle.ics_rule.proofs.OpenLemmas.{day_seconds, day_in, day_out}
 use Rattle.ics_rule.proofs.open_periods.open_in_day.Goals as goal

@@ -1,9 +1,9 @@
 use Rattle.std.proofs.Common.{◌≡◌, ◌∙◌, ◌&&◌, ◌+◌, ◌*◌, ◌<◌, ◌≤◌, refl, arith}
 use Rattle.std.proofs.lemmas.Nat.{mul-le}
-use Rattle.ics_rule.specs.Candidates.{is_stepped, lets_date}
-use Rattle.ics_rule.specs.Kept.{count}
+use Rattle.ics_period.specs.Candidates.{is_stepped, lets_date}
+use Rattle.ics_period.specs.Ranks.{count}
 use Rattle.ics_rule.specs.Inner.OpenPeriods.{per_day}
-use Rattle.ics_rule.proofs.Counts.{count_most}
+use Rattle.ics_period.proofs.Counts.{count_most}
 use Rattle.ics_rule.proofs.OpenLemmas.{IsDayRun, day_some, placed, placed_none, placed_more, placed_all}
 use Rattle.ics_rule.proofs.open_periods.open_of_days.Goals as goal
 use Rattle.ics_rule.proofs.open_periods.open_of_days.Goals.{then-steps-gt0, else-steps-gt0, After-min-j-end, After-days_let_in}

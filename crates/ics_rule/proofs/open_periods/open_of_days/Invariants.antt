@@ -1,5 +1,5 @@
 use Rattle.std.proofs.Common.{◌≡◌, ◌*◌}
-use Rattle.ics_rule.specs.Kept.{count}
+use Rattle.ics_period.specs.Ranks.{count}
 use Rattle.ics_rule.specs.Inner.OpenPeriods.{per_day}
 use Rattle.ics_rule.proofs.OpenLemmas.{placed}
 use Rattle.ics_rule.proofs.open_periods.open_of_days.Given as goal

@@ -1,5 +1,5 @@
 use Rattle.std.proofs.Common.{◌∙◌, sym, arith}
-use Rattle.ics_rule.proofs.DayWalkLemmas.{month_out}
+use Rattle.ics_period.proofs.DayWalkLemmas.{month_out}
 use Rattle.ics_rule.proofs.pass.days_of_closed_month.Goals as goal
 
 pub returns-else-lets-clause-none : goal.returns-else-lets-clause-none

@@ -1,5 +1,5 @@
 use Rattle.std.proofs.Common.{◌∙◌, ◌<◌, sym, subst, arith}
-use Rattle.ics_rule.specs.Candidates.{lets_date}
+use Rattle.ics_period.specs.Candidates.{lets_date}
 use Rattle.ics_rule.proofs.PassLemmas.{one_out}
 use Rattle.ics_rule.proofs.pass.days_out.Goals as goal
 

@@ -1,5 +1,5 @@
 use Rattle.std.proofs.Common.{◌-◌, ◌≡◌, ℕ, ◌<◌, ◌≤◌, ◌+◌, false}
-use Rattle.ics_rule.specs.Candidates.{lets_date}
+use Rattle.ics_period.specs.Candidates.{lets_date}
 use Rattle.ics_rule.proofs.pass.next_open_day.Given as goal
 
 abbrev pub invariant-loop-day : goal.invariant-loop-day

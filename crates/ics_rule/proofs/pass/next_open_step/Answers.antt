@@ -1,5 +1,5 @@
 use Rattle.std.proofs.Common.{◌+◌, arith}
-use Rattle.ics_rule.proofs.PeriodLemmas.{begun}
+use Rattle.ics_period.proofs.PeriodLemmas.{begun}
 use Rattle.ics_rule.proofs.PassLemmas.{step_open}
 use Rattle.ics_rule.proofs.pass.next_open_step.Goals as goal
 

@@ -12,23 +12,24 @@ use Rattle.ics_fields.specs.declared.ordinals.Ordinals.{Ordinals}
 use Rattle.ics_fields.specs.Sets.{contains}
 use Rattle.ics_fields.specs.Ordinals.{lists_none, numbers_of}
 use Rattle.ics_fields.specs.Days.{year_of, year_day_of, month_of, month_day_of, weekday_of}
-use Rattle.ics_rule.specs.Recurrence.{Recurrence}
-use Rattle.ics_rule.specs.PeriodNumbers.{day_of, hour_of, minute_of, second_of, rules_end}
+use Rattle.ics_period.specs.Recurrence.{Recurrence}
+use Rattle.ics_period.specs.PeriodNumbers.{day_of, hour_of, minute_of, second_of, rules_end}
 use Rattle.ics_fields.specs.Locals.{number, calendar_end}
-use Rattle.ics_rule.specs.EffectiveRules.{takes_weekday, effective}
-use Rattle.ics_rule.specs.Candidates.{lets_place, lets_wide_place, lets_week, lets_weekday, lets_date, lets_clock, period_in, is_stepped, is_candidate_in}
-use Rattle.ics_rule.specs.Kept.{count, is_chosen, is_in_rule, is_counted, is_kept}
+use Rattle.ics_period.specs.EffectiveRules.{takes_weekday, effective}
+use Rattle.ics_period.specs.Candidates.{lets_place, lets_wide_place, lets_week, lets_weekday, lets_date, lets_clock, period_in, is_stepped, is_candidate_in}
+use Rattle.ics_period.specs.Ranks.{count, is_chosen}
+use Rattle.ics_rule.specs.Kept.{is_in_rule, is_counted, is_kept}
 use Rattle.ics_rule.specs.Table.{ByWeekNo, ByYearDay, ByMonthDay, ByDay}
 use Rattle.ics_rule.specs.ByTable.{instance_of, is_absent, is_listed, weekday_unit, lists_nth_in}
 use Rattle.ics_rule.specs.PlainReading.{is_place, is_dayless, is_extracted, applies, month_day_applies, year_day_applies, with_weekday, weekday_period}
 use Rattle.ics_rule.specs.PlainReading.{weekday_applies, week_applies, all_apply, period_at, frequency_applies, occurs_in, position_applies, is_plain_member}
 use Rattle.ics_rule.specs.PlainReading.{is_few_members, is_plainly_kept, HasPlainReading}
-use Rattle.ics_rule.proofs.Counts.{count-same, count-none}
-use Rattle.ics_rule.proofs.PeriodLemmas.{week_small, period_mono}
+use Rattle.ics_period.proofs.Counts.{count-same, count-none}
+use Rattle.ics_period.proofs.PeriodLemmas.{week_small, period_mono}
 use Rattle.ics_rule.proofs.ChosenLemmas.{beside_let_in, chosen_by}
 use Rattle.ics_rule.proofs.TableSteps.{by_absence, months_let_in, month_days_let_in, weekdays_let_in, clock_let_in}
 use Rattle.ics_rule.proofs.NthLemmas.{month_days_listed, year_days_listed, month_weekday_listed, year_weekday_listed, weeks_listed}
-use Rattle.ics_rule.proofs.Tests.{by_order, and_assoc, unequal}
+use Rattle.ics_period.proofs.Tests.{by_order, and_assoc, unequal}
 use Rattle.ics_rule.proofs.UntilLemmas.{until_bounds}
 use Rattle.ics_rule.proofs.plain.plain_reading.Goals as goal
 

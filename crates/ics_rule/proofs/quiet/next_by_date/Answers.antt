@@ -1,9 +1,9 @@
 use Rattle.std.proofs.Common.{arith}
 use Rattle.jiff_core.specs.Weekday.{monday_zero}
 use Rattle.ics_fields.specs.Sets.{IsLeastFrom}
-use Rattle.ics_rule.specs.Candidates.{is_stepped, period_in}
-use Rattle.ics_rule.specs.PeriodNumbers.{rules_end}
-use Rattle.ics_rule.proofs.PeriodLemmas.{before_first, begun, period_mono}
+use Rattle.ics_period.specs.Candidates.{is_stepped, period_in}
+use Rattle.ics_period.specs.PeriodNumbers.{rules_end}
+use Rattle.ics_period.proofs.PeriodLemmas.{before_first, begun, period_mono}
 use Rattle.ics_rule.proofs.QuietLemmas.{closed, off_step}
 use Rattle.ics_rule.proofs.quiet.next_by_date.Goals as goal
 use Rattle.ics_rule.proofs.quiet.next_by_date.Goals.{After-next_step-step}

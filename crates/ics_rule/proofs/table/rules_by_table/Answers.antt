@@ -7,20 +7,21 @@ use Rattle.jiff_core.specs.Calendar.{days_in_month}
 use Rattle.ics_fields.specs.declared.frequency.Frequency.{Frequency}
 use Rattle.ics_fields.specs.declared.frequency.Frequency.TheVariants.{Weekly, Monthly, Yearly}
 use Rattle.ics_fields.specs.Sets.{contains}
-use Rattle.ics_rule.specs.Recurrence.{Recurrence}
-use Rattle.ics_rule.specs.PeriodNumbers.{day_of}
-use Rattle.ics_rule.specs.EffectiveRules.{takes_weekday, skips_hours, skips_minutes, skips_seconds, effective}
-use Rattle.ics_rule.specs.Candidates.{lets, lets_week, lists, is_candidate}
-use Rattle.ics_rule.specs.RecurrencePeriods.{is_let_in}
+use Rattle.ics_period.specs.Recurrence.{Recurrence}
+use Rattle.ics_period.specs.PeriodNumbers.{day_of}
+use Rattle.ics_period.specs.EffectiveRules.{takes_weekday, skips_hours, skips_minutes, skips_seconds, effective}
+use Rattle.ics_period.specs.Candidates.{lets, lets_week, lists, is_candidate}
+use Rattle.ics_period.specs.RecurrencePeriods.{is_let_in}
 use Rattle.ics_rule.specs.PlainReading.{is_extracted, is_dayless}
 use Rattle.ics_rule.specs.Table.{Part, ByMonth, ByWeekNo, ByYearDay, ByMonthDay, ByDay, ByHour, ByMinute, BySecond, Cell, Nothing, Expand, Note1, Note2, cell}
 use Rattle.ics_rule.specs.ByTable.{Instance, Instances, instance_of, start_of, is_absent, is_listed, own_instance, before, gives, on_own_day, apply_cell}
 use Rattle.ics_rule.specs.ByTable.{apply, is_instance, IsAllowed, is_limited, is_period, period_of, is_member, is_within_count, is_kept_by_table}
 use Rattle.ics_rule.proofs.TableSteps.{months_let_in, month_days_let_in, weekdays_let_in, clock_let_in}
-use Rattle.ics_rule.proofs.Tests.{iff, and_assoc}
+use Rattle.ics_period.proofs.Tests.{iff, and_assoc}
 use Rattle.ics_fields.specs.Locals.{number}
-use Rattle.ics_rule.specs.Kept.{is_chosen, is_in_rule, is_counted, is_kept}
-use Rattle.ics_rule.proofs.Counts.{count-same}
+use Rattle.ics_period.specs.Ranks.{is_chosen}
+use Rattle.ics_rule.specs.Kept.{is_in_rule, is_counted, is_kept}
+use Rattle.ics_period.proofs.Counts.{count-same}
 use Rattle.ics_rule.proofs.ChosenLemmas.{beside_let_in, chosen_by}
 use Rattle.ics_rule.proofs.UntilLemmas.{until_bounds}
 use Rattle.ics_rule.proofs.table.rules_by_table.Goals as goal

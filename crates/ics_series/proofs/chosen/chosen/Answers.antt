@@ -3,7 +3,7 @@ use Rattle.std.specs.Ordering.{on}
 use Rattle.std.proofs.lemmas.Cmp.{on_total}
 use Rattle.std.proofs.lemmas.Result.{IfOk-weaker}
 use Rattle.ics_file.specs.File.{said_by}
-use Rattle.ics_series.specs.Clocks.{display_clock}
+use Rattle.ics_starts.specs.Clocks.{display_clock}
 use Rattle.ics_series.specs.Versions.{AreChosen, is_same, label_cmp, lasts, seen}
 use Rattle.ics_series.specs.Inner.Whole.{AreRead}
 use Rattle.ics_series.proofs.VersionLemmas.{found, label_total}

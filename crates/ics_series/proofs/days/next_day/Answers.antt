@@ -1,4 +1,4 @@
-use Rattle.std.proofs.Common.{◌≡◌, ◌≤ℤ◌, ◌<ℤ◌, ◌-ℤ◌, ◌+ℤ◌, ℤ, List, pos, refl, ap, ◌∙◌, sym, subst, arith, ◌*ℤ◌, to_z, of_z, w32, w64}
+use Rattle.std.proofs.Common.{◌≡◌, ◌≤ℤ◌, ◌<ℤ◌, ◌-ℤ◌, ◌+ℤ◌, ℤ, List, pos, rules, refl, ap, ◌∙◌, sym, subst, arith, ◌*ℤ◌, to_z, of_z, w32, w64}
 use Rattle.std.specs.Int.{int_max, int_min}
 use Rattle.std.proofs.lemmas.Int.{int_max_is, int_min_is, ints, to_z-of_z}
 use Rattle.ics_fields.specs.Locals.{day_of_local, midnight}
@@ -67,23 +67,24 @@ pub returns-clause-later : goal.returns-clause-later
 returns-clause-later c =
     let w = c.args.window.now in
     let more = c.requires.more in
-    let within = day-within w c.args.day c.requires.low (omega (arith, ints, more)) in
+    let within = day-within w c.args.day c.requires.low (omega (arith, ints, more, c.requires.last)) in
+    let last : to_z w32 (of_z w32 c.args.last) ≡ c.args.last = search rules in
     let next : to_z w32 (of_z w32 (c.args.day +ℤ pos 1)) ≡ c.args.day +ℤ pos 1 = omega (arith, ints, within.0, within.1, w.not_early, w.not_late) in
     let max = c.max.ensures.other_bound in
-    omega (arith, ints, c.min.type_inv, c.min.ensures.value, int_min_is, c.max.type_inv, max, next, c.last_near.type_inv, c.last_near.ensures, more)
+    omega (arith, ints, c.min.type_inv, c.min.ensures.value, int_min_is, c.max.type_inv, max, next, last, more)
 
 pub returns-clause-last : goal.returns-clause-last
 returns-clause-last c =
     let fits : to_z w32 (of_z w32 c.min.result) ≡ c.min.result = to_z-of_z w32 c.min.result (record { sfits = c.min.type_inv }) in
-    let last : to_z w32 (of_z w32 c.last_near.result) ≡ c.last_near.result = to_z-of_z w32 c.last_near.result (record { sfits = c.last_near.type_inv }) in
+    let last : to_z w32 (of_z w32 c.args.last) ≡ c.args.last = search rules in
     let under = (under-both c.min.ensures.value).1 in
-    subst (λ r. r ≤ℤ last_near c.args.window.now) (sym fits) (subst (λ l. c.min.result ≤ℤ l) (last ∙ c.last_near.ensures) under)
+    subst (λ r. r ≤ℤ c.args.last) (sym fits) (subst (λ l. c.min.result ≤ℤ l) last under)
 
 pub returns-clause-none : goal.returns-clause-none
 returns-clause-none c =
     let w = c.args.window.now in
     let low = c.requires.low in
-    let more = c.requires.more in
+    let more : c.args.day <ℤ last_near c.args.window.now = omega (arith, ints, c.requires.more, c.requires.last) in
     let next = day-fits w c.args.day low more in
     let ends = ends-fit w in
     let least : to_z w64 (of_z w64 c.first_after.result) ≡ c.first_after.result =
@@ -94,10 +95,10 @@ returns-clause-none c =
     let reached = reached-fits w (to_z w64 (of_z w64 c.max-first.result)) c.of_seconds-reached.result.day within.0 within.1 c.of_seconds-reached.ensures.day in
     let fits : to_z w32 (of_z w32 c.min.result) ≡ c.min.result = to_z-of_z w32 c.min.result (record { sfits = c.min.type_inv }) in
     let max : to_z w32 (of_z w32 c.max.result) ≡ c.max.result = to_z-of_z w32 c.max.result (record { sfits = c.max.type_inv }) in
-    let last : to_z w32 (of_z w32 c.last_near.result) ≡ c.last_near.result = to_z-of_z w32 c.last_near.result (record { sfits = c.last_near.type_inv }) in
+    let last : to_z w32 (of_z w32 c.args.last) ≡ c.args.last = search rules in
     let under = under-both c.min.ensures.value in
     let most : to_z w32 (of_z w32 c.min.result) ≤ℤ last_near c.args.window.now =
-    subst (λ r. r ≤ℤ last_near c.args.window.now) (sym fits) (subst (λ l. c.min.result ≤ℤ l) (last ∙ c.last_near.ensures) under.1) in
+    let least : c.min.result ≤ℤ c.args.last = subst (λ l. c.min.result ≤ℤ l) last under.1 in omega (arith, ints, fits, least, c.requires.last) in
     let day-is : to_z w32 (of_z w32 c.min.result) ≤ℤ int_max (day_of_local (to_z w64 (of_z w64 c.max-first.result)) -ℤ pos 2) (c.args.day +ℤ pos 1) =
     subst (λ r. r ≤ℤ int_max (day_of_local (to_z w64 (of_z w64 c.max-first.result)) -ℤ pos 2) (c.args.day +ℤ pos 1)) (sym fits)
     (subst (λ m. c.min.result ≤ℤ m) (max ∙ (c.max.ensures.value ∙ (λ i. int_max (reached i) (next i)))) under.0) in

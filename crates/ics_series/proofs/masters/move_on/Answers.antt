@@ -1,19 +1,14 @@
-use Rattle.std.proofs.Common.{◌≡◌, ◌∙◌, ℤ, inr, None, Some, Option, is_some, option_map, refl, rules, sym, subst, to_z, of_z, w64, pos, false, true}
-use Rattle.ics_series.specs.declared.series.Series.{Series}
-use Rattle.ics_listing.specs.Entry.{key_rank}
-use Rattle.ics_series.specs.FileZones.{clocks_in}
-use Rattle.ics_series.specs.Inner.Quiet.{IsQuietTo}
-use Rattle.ics_series.specs.SeriesFeed.{IsSameSeries}
+use Rattle.std.proofs.Common.{◌≡◌, ◌∙◌, ℤ, inr, arith, refl, rules, sym, subst, to_z, of_z, w64, pos}
+use Rattle.ics_starts.specs.declared.series.Series.{Series}
+use Rattle.ics_starts.specs.FileZones.{clocks_in}
+use Rattle.ics_starts.specs.Quiet.{IsQuietTo}
+use Rattle.ics_starts.specs.SeriesFeed.{IsSameSeries}
 use Rattle.ics_series.proofs.masters.move_on.Goals as goal
 
 -- the same series is quiet to the same instant
 quiet-same : (old new : Series) (t : ℤ) → IsSameSeries old new → IsQuietTo (clocks_in new.zones) new.event.now new.window new.since t
     → IsQuietTo (clocks_in old.zones) old.event.now old.window old.since t
 quiet-same old new t same h = rw (same.zones, same.event, same.window, same.since) at h
-
-none-mapped : {X Y : Type 0} (f : X → Y) (o : Option X) → is_some o ≡ false → option_map f o ≡ None
-none-mapped f None e = refl
-none-mapped f (Some x) e = let no : true ≡ false = e in absurd cc
 
 pub returns : goal.returns
 returns c =
@@ -24,7 +19,7 @@ returns c =
       same = c.settle.ensures.same;
       coming = c.settle.ensures.coming;
       spans = inr (record {
-        none = none-mapped (λ key. key_rank key.now) c.args.after (sym c.is_some.ensures ∙ c.if-is_some.false);
+        low = search (arith, rules);
         empty = sym c.settle.ensures.coming ∙ c.in_ok-settle.ensures.none c.if-branch.false;
         span = record { first = to_z w64 (of_z w64 c.quiet.result); last = pos 9_223_372_036_854_775_807 };
         rest = record {

@@ -1,57 +1,67 @@
 use Rattle.std.proofs.lemmas.Grind.{common_steps}
-use Rattle.std.proofs.Common.{◌≡◌, ◌≤ℤ◌, [], ◌∷◌, ◌++◌, Vec, Global, Option, None, map, get_or, option_map, refl, sym, subst, ap, ◌∙◌, arith, append-nil}
+use Rattle.std.proofs.Common.{◌≡◌, List, [], ◌∷◌, ◌++◌, Vec, Global, Option, Some, map, get_or, option_map, refl, sym, subst}
+use Rattle.std.proofs.Common.{ap, ◌∙◌, arith, append-nil}
 use Rattle.std.specs.List.{flat_map}
+use Rattle.std.proofs.lemmas.Int.{ints}
 use Rattle.std.proofs.lemmas.List.{map-append}
 use Rattle.std.proofs.lemmas.List.Concat.{flat_map-append}
 use Rattle.std.proofs.lemmas.Option.{slice_get-get_or, slice_get-map, MatchOption-at_none, MatchOption-at_some}
 use Rattle.ics_file.specs.File.{said_by}
-use Rattle.ics_series.specs.Clocks.{display_clock}
+use Rattle.ics_starts.specs.Clocks.{display_clock}
 use Rattle.ics_series.specs.Versions.{seen}
-use Rattle.ics_series.specs.declared.mark.Mark.{Mark}
+use Rattle.ics_starts.specs.declared.mark.Mark.{Mark}
 use Rattle.ics_series.specs.declared.part.Part.{Part}
 use Rattle.ics_series.specs.declared.part.Part.TheVariants as part
-use Rattle.ics_series.specs.declared.series.Series.{Series}
+use Rattle.ics_starts.specs.declared.series.Series.{Series}
 use Rattle.ics_series.specs.declared.span.Span.{Span}
 use Rattle.ics_series.specs.AgendaParts.{part_coming, part_sources}
 use Rattle.ics_listing.specs.Entry.{key_rank}
+use Rattle.ics_starts.specs.FileZones.{clocks_in}
 use Rattle.ics_series.specs.Inner.Marks.{AreMarks}
-use Rattle.ics_series.specs.Inner.Spans.{is_out, AreMovedOn}
-use Rattle.ics_series.specs.SeriesFeed.{series_left, series_of, series_sources}
+use Rattle.ics_series.specs.Inner.Spans.{is_out, AreMovedOn, IsMovedOn}
+use Rattle.ics_starts.specs.SeriesFeed.{series_left, series_of, series_sources}
 use Rattle.ics_series.proofs.MarkLemmas.{mark-of, marks-put, own-mark}
 use Rattle.ics_series.proofs.OverrideLemmas.{any_version}
 use Rattle.ics_series.proofs.RecurringLemmas.{not-single}
-use Rattle.ics_series.proofs.SourceLemmas.{lists-none, versions-all, versions-more, versions-none, versions-skip, sources-all, sources-more, sources-none}
+use Rattle.ics_starts.proofs.SameLemmas.{same-sources}
+use Rattle.ics_series.proofs.SourceLemmas.{versions-all, versions-more, versions-none, versions-skip, sources-all, sources-more}
 use Rattle.ics_series.proofs.SourceLemmas.{sources-skip}
-use Rattle.ics_series.proofs.SpanLemmas.{moved-both, moved-here, moved-none, out-version, same-sources, series-moved}
+use Rattle.ics_series.proofs.SpanLemmas.{out-version, series-moved}
 use Rattle.ics_series.proofs.VersionLemmas.{stands}
 use Rattle.ics_series.proofs.masters.push_series.Goals as goal
-use Rattle.ics_series.proofs.masters.push_series.Goals.{After-move_on, in-Some+in_ok-move_on+in_ok-new+in_ok-push, in_default}
+use Rattle.ics_series.proofs.masters.push_series.Goals.{In_ok-series, in-Some+in_ok-move_on+in_ok-new+in_ok-push, in_default}
 
 -- the spans after a version's own was moved on, or could not be
-moved-on : (c : After-move_on) → AreMovedOn (map said_by c.args.files.now) (display_clock c.args.display.now) c.args.window (map seen c.args.chosen.now)
-    c.args.spans.now.items c.move_on.new.spans.items
-moved-on c =
+moved-on : (c : In_ok-series) (series : Series) {spans : List Span} → c.in_ok-series.field-0 ≡ Some series
+    → IsMovedOn (clocks_in series.zones) series.event.now series.window series.since c.args.floor
+    (series_of series (series_left series)) c.loop-place.spans.items c.loop-place.place spans
+    → AreMovedOn (map said_by c.args.files.now) (display_clock c.args.display.now) c.args.window c.args.floor (map seen c.args.chosen.now)
+    c.args.spans.now.items spans
+moved-on c series is moved =
     let vs = c.args.chosen.now in
     let k = c.loop-place.place in
     let v = get_or c.args.chosen.now c.loop-place.place any_version in
     let there = slice_get-get_or vs k any_version c.loop-place-test.true in
     let files = map said_by c.args.files.now in
     let display = display_clock c.args.display.now in
-    let m = MatchOption-at_some _ _ c.in-Some.series c.in-Some.is (c.in_ok-series.ensures.sources v there) in
-    let listing = MatchOption-at_some _ _ c.in-Some.series c.in-Some.is (c.in_ok-series.ensures.series v there) in
-    let early : option_map (λ key. key_rank key.now) c.args.after ≡ None → c.in-Some.series.since ≤ℤ c.in-Some.series.window.from =
-    λ e. MatchOption-at_some _ _ c.in-Some.series c.in-Some.is (c.in_ok-series.ensures.since e) in
-    moved-both files display c.args.window (map seen vs) c.loop-place.invariant.spans
-    (series-moved files display c.args.window vs k there c.in-Some.series m.1 m.2 early listing c.move_on.ensures.spans)
+    let m = MatchOption-at_some _ _ series is (c.in_ok-series.ensures.sources v there) in
+    let listing = MatchOption-at_some _ _ series is (c.in_ok-series.ensures.series v there) in
+    let behind = MatchOption-at_some _ _ series is (c.in_ok-series.ensures.since v there) in
+    let more = series-moved files display c.args.window c.args.floor vs k there series m.1 m.2 behind listing moved in
+    let before = c.loop-place.invariant.spans in
+    record { size = more.size ∙ before.size; still = λ n later are. more.still n later (before.still n later are) }
 
 pub returns-in_err-move_on-clause-spans : goal.returns-in_err-move_on-clause-spans
-returns-in_err-move_on-clause-spans c = moved-on (goal.at.returns-in_err-move_on-clause-spans c).After-move_on
+returns-in_err-move_on-clause-spans c =
+    moved-on (goal.at.returns-in_err-move_on-clause-spans c).In_ok-series c.in-Some.series c.in-Some.is c.move_on.ensures.spans
 
 pub returns-in_err-new-clause-spans : goal.returns-in_err-new-clause-spans
-returns-in_err-new-clause-spans c = moved-on (goal.at.returns-in_err-new-clause-spans c).After-move_on
+returns-in_err-new-clause-spans c =
+    moved-on (goal.at.returns-in_err-new-clause-spans c).In_ok-series c.in-Some.series c.in-Some.is c.move_on.ensures.spans
 
 pub returns-in_err-push-clause-spans : goal.returns-in_err-push-clause-spans
-returns-in_err-push-clause-spans c = moved-on (goal.at.returns-in_err-push-clause-spans c).After-move_on
+returns-in_err-push-clause-spans c =
+    moved-on (goal.at.returns-in_err-push-clause-spans c).In_ok-series c.in-Some.series c.in-Some.is c.move_on.ensures.spans
 
 -- nothing of a series was read where its mark is taken
 pub mark-begun-requires : goal.mark-begun-requires
@@ -59,9 +69,9 @@ mark-begun-requires c = MatchOption-at_some _ _ c.in-Some.series c.in-Some.is c.
 
 pub loop-place-init : goal.loop-place-init
 loop-place-init c = record {
-  lists = lists-none (map part_coming c.args.parts.now.items);
-  sources = sources-none (flat_map part_sources c.args.parts.now.items);
-  spans = moved-none (map said_by c.args.files.now) (display_clock c.args.display.now) c.args.window (map seen c.args.chosen.now) refl;
+  lists = record { more = []; are = record { each = tt; every = λ l m. absurd m }; behind = sym (append-nil (map part_coming c.args.parts.now.items)) };
+  sources = record { more = []; each = tt; rises = tt; behind = sym (append-nil (flat_map part_sources c.args.parts.now.items)) };
+  spans = record { size = refl; still = λ n later are. are };
   marks = c.requires.marks;
 }
 
@@ -71,80 +81,56 @@ loop-place-preserved c =
     let k = c.loop-place.place in
     let v = get_or c.args.chosen.now c.loop-place.place any_version in
     let there = slice_get-get_or vs k any_version c.loop-place-test.true in
-    record {
-      sources =
-          elim c.match-branch-2.branch [
-            | in-Some+in_ok-move_on+in_ok-new+in_ok-push w ↦
-                let value : w.in_ok-new.field-0.value ≡ w.move_on.new.series = w.in_ok-new.ensures.ok in
-                let m = MatchOption-at_some _ _ w.in-Some.series w.in-Some.is (c.in_ok-series.ensures.sources v there) in
+    let files = map said_by c.args.files.now in
+    let AreMoved = AreMovedOn files (display_clock c.args.display.now) c.args.window c.args.floor (map seen vs) c.args.spans.now.items in
+    elim c.match-branch-2.branch [
+      | in-Some+in_ok-move_on+in_ok-new+in_ok-push w ↦
+          let value : w.in_ok-new.field-0.value ≡ w.move_on.new.series = w.in_ok-new.ensures.ok in
+          let m = MatchOption-at_some _ _ w.in-Some.series w.in-Some.is (c.in_ok-series.ensures.sources v there) in
+          record {
+            sources =
                 sources-more c.requires.chosen k there c.loop-place.invariant.sources m.1
                 (ap (λ (p : Vec Part Global). flat_map part_sources p.items) w.parts-is ∙ (ap (flat_map part_sources) (w.in_ok-push.ensures.items)
                 ∙ (flat_map-append part_sources c.loop-place.parts.items (part.Series w.in_ok-new.field-0 ∷ [])
                 ∙ ap (λ xs. flat_map part_sources c.loop-place.parts.items ++ xs) (append-nil (series_sources w.in_ok-new.field-0.value)
-                ∙ (ap series_sources value ∙ (same-sources w.move_on.ensures.same ∙ m.2))))))
-            | in_default w ↦
-                sources-skip c.requires.chosen k there c.loop-place.invariant.sources
-                (ap (λ (p : Vec Part Global). flat_map part_sources p.items) w.parts-is)
-          ];
-      lists =
-          elim c.match-branch-2.branch [
-            | in-Some+in_ok-move_on+in_ok-new+in_ok-push w ↦
-                let value : w.in_ok-new.field-0.value ≡ w.move_on.new.series = w.in_ok-new.ensures.ok in
+                ∙ (ap series_sources value ∙ (same-sources w.in-Some.series w.move_on.new.series w.move_on.ensures.same ∙ m.2))))));
+            lists =
                 versions-more vs k there c.loop-place.invariant.lists
                 (MatchOption-at_some _ _ w.in-Some.series w.in-Some.is (c.in_ok-series.ensures.series v there))
                 (ap (λ (p : Vec Part Global). map part_coming p.items) w.parts-is ∙ (ap (map part_coming) w.in_ok-push.ensures.items
                 ∙ (map-append part_coming c.loop-place.parts.items (part.Series w.in_ok-new.field-0 ∷ [])
                 ∙ ap (λ xs. map part_coming c.loop-place.parts.items ++ xs ∷ [])
-                (ap (λ (s : Series). series_of s (series_left s)) value ∙ w.move_on.ensures.coming))))
-            | in_default w ↦
-                versions-skip vs k there c.loop-place.invariant.lists
-                (MatchOption-at_none _ _ w.in_default.is (c.in_ok-series.ensures.series v there))
-                (ap (λ (p : Vec Part Global). map part_coming p.items) w.parts-is)
-          ];
-      spans =
-          elim c.match-branch-2.branch [
-            | in-Some+in_ok-move_on+in_ok-new+in_ok-push w ↦
-                let files = map said_by c.args.files.now in
-                let display = display_clock c.args.display.now in
-                let m = MatchOption-at_some _ _ w.in-Some.series w.in-Some.is (c.in_ok-series.ensures.sources v there) in
-                let listing = MatchOption-at_some _ _ w.in-Some.series w.in-Some.is (c.in_ok-series.ensures.series v there) in
-                let early : option_map (λ key. key_rank key.now) c.args.after ≡ None → w.in-Some.series.since ≤ℤ w.in-Some.series.window.from =
-                λ e. MatchOption-at_some _ _ w.in-Some.series w.in-Some.is (c.in_ok-series.ensures.since e) in
-                let moved = series-moved files display c.args.window vs k there w.in-Some.series m.1 m.2 early listing w.move_on.ensures.spans in
-                subst (AreMovedOn files display c.args.window (map seen vs) c.args.spans.now.items)
-                (sym (ap (λ (p : Vec Span Global). p.items) w.spans-is))
-                (moved-both files display c.args.window (map seen vs) c.loop-place.invariant.spans moved)
-            | in_default w ↦
-                subst (AreMovedOn (map said_by c.args.files.now) (display_clock c.args.display.now) c.args.window (map seen vs) c.args.spans.now.items)
-                (sym (ap (λ (p : Vec Span Global). p.items) w.spans-is)) c.loop-place.invariant.spans
-          ];
-      marks =
-          elim c.match-branch-2.branch [
-            | in-Some+in_ok-move_on+in_ok-new+in_ok-push w ↦
-                let m = MatchOption-at_some _ _ w.in-Some.series w.in-Some.is (c.in_ok-series.ensures.sources v there) in
-                subst (AreMarks (map said_by c.args.files.now) (map seen c.args.chosen.now)) (sym (ap (λ (p : Vec (Option Mark) Global). p.items) w.marks-is))
-                (marks-put (map said_by c.args.files.now) (map seen vs) k w.mark-begun.result c.loop-place.marks.items _ c.loop-place.invariant.marks
-                w.put_mark.ensures
-                (own-mark (map said_by c.args.files.now) vs k there w.in-Some.series w.mark-begun.result m.1.stands m.2 w.mark-begun.ensures))
-            | in_default w ↦
-                subst (AreMarks (map said_by c.args.files.now) (map seen c.args.chosen.now)) (sym (ap (λ (p : Vec (Option Mark) Global). p.items) w.marks-is))
-                c.loop-place.invariant.marks
-          ];
-    }
+                (ap (λ (s : Series). series_of s (series_left s)) value ∙ w.move_on.ensures.coming))));
+            spans = subst AreMoved (sym (ap (λ (p : Vec Span Global). p.items) w.spans-is))
+                (moved-on (goal.at.loop-place-preserved c).In_ok-series w.in-Some.series w.in-Some.is w.move_on.ensures.spans);
+            marks = subst (AreMarks files (map seen vs)) (sym (ap (λ (p : Vec (Option Mark) Global). p.items) w.marks-is))
+                (marks-put files (map seen vs) k w.mark-begun.result c.loop-place.marks.items _ c.loop-place.invariant.marks w.put_mark.ensures
+                (own-mark files vs k there w.in-Some.series w.mark-begun.result m.1.stands m.2 w.mark-begun.ensures));
+          }
+      | in_default w ↦
+          record {
+            sources = sources-skip c.requires.chosen k there c.loop-place.invariant.sources
+                (ap (λ (p : Vec Part Global). flat_map part_sources p.items) w.parts-is);
+            lists =
+                versions-skip vs k there c.loop-place.invariant.lists (MatchOption-at_none _ _ w.in_default.is (c.in_ok-series.ensures.series v there))
+                (ap (λ (p : Vec Part Global). map part_coming p.items) w.parts-is);
+            spans = subst AreMoved (sym (ap (λ (p : Vec Span Global). p.items) w.spans-is)) c.loop-place.invariant.spans;
+            marks = subst (AreMarks files (map seen vs)) (sym (ap (λ (p : Vec (Option Mark) Global). p.items) w.marks-is)) c.loop-place.invariant.marks;
+          }
+    ]
 
 pub loop-place-preserved-then-is_out : goal.loop-place-preserved-then-is_out
 loop-place-preserved-then-is_out c =
     let vs = c.args.chosen.now in
     let k = c.loop-place.place in
-    let v = get_or c.args.chosen.now c.loop-place.place any_version in
     let there = slice_get-get_or vs k any_version c.loop-place-test.true in
     let at = slice_get-map seen vs k ∙ ap (option_map seen) there in
     let files = map said_by c.args.files.now in
     let display = display_clock c.args.display.now in
-    let are = moved-here files display c.args.window (map seen vs) c.loop-place.invariant.spans c.requires.spans in
+    let are = c.loop-place.invariant.spans.still c.args.window (record { from = omega (arith, ints); same = refl }) c.requires.spans in
     let none = out-version files display c.args.window (map seen vs) c.loop-place.spans.items are k at
     (ap (λ xs. is_out xs k c.args.window) (sym c.deref.ensures.value) ∙ (sym c.is_out.ensures ∙ c.if-is_out.true))
-    (option_map (λ key. key_rank key.now) c.args.after) in
+    (option_map (λ key. key_rank key.now) c.args.after) c.requires.floor in
     record {
       lists = versions-none vs k there c.loop-place.invariant.lists none refl;
       sources = sources-skip c.requires.chosen k there c.loop-place.invariant.sources refl;

@@ -1,7 +1,7 @@
 use Rattle.std.proofs.Common.{map, take, option_map}
 use Rattle.std.specs.List.{flat_map}
 use Rattle.ics_file.specs.File.{said_by}
-use Rattle.ics_series.specs.Clocks.{display_clock}
+use Rattle.ics_starts.specs.Clocks.{display_clock}
 use Rattle.ics_listing.specs.Entry.{key_rank}
 use Rattle.ics_series.specs.Inner.Marks.{AreMarks}
 use Rattle.ics_series.specs.Inner.Masters.{HasLists, HasSources}
@@ -19,6 +19,6 @@ invariant-loop-place l = record {
   sources :
       HasSources (map said_by l.files) (display_clock l.display) l.window (option_map (λ key. key_rank key.now) l.after) (map seen (take l.place l.chosen))
       (flat_map part_sources l.initial.parts.items) (flat_map part_sources l.parts.items);
-  spans : AreMovedOn (map said_by l.files) (display_clock l.display) l.window (map seen l.chosen) l.initial.spans.items l.spans.items;
+  spans : AreMovedOn (map said_by l.files) (display_clock l.display) l.window l.floor (map seen l.chosen) l.initial.spans.items l.spans.items;
   marks : AreMarks (map said_by l.files) (map seen l.chosen) l.marks.items;
 }

@@ -1,21 +1,19 @@
-use Rattle.std.proofs.Common.{◌≡◌, ◌≤ℤ◌, Some, arith, ◌∙◌, rules, map, slice_get, w64, to_z, of_z, refl, sym, ap, subst, option_map}
-use Rattle.std.proofs.lemmas.Int.{ints}
+use Rattle.std.proofs.Common.{◌≡◌, Some, ◌∙◌, rules, map, slice_get, w64, to_z, of_z, refl, sym, ap, subst, option_map}
 use Rattle.std.proofs.lemmas.Option.{slice_get_read}
 use Rattle.ics_file.specs.File.{said_by, IsEventOf}
 use Rattle.ics_event.specs.declared.event.Event.{Event}
-use Rattle.ics_series.specs.Clocks.{display_clock}
+use Rattle.ics_starts.specs.Clocks.{display_clock}
 use Rattle.ics_listing.specs.Entry.{key_rank}
-use Rattle.ics_series.specs.Inner.Masters.{Recurs}
+use Rattle.ics_series.specs.Inner.Masters.{IsBehind, Recurs}
 use Rattle.ics_series.specs.Sources.{IsFrom}
 use Rattle.ics_listing.specs.FeedSources.{Recurring}
-use Rattle.ics_listing.specs.declared.window.Window.{Window}
 use Rattle.ics_series.specs.Versions.{seen}
-use Rattle.ics_series.specs.FileZones.{clocks_in}
+use Rattle.ics_starts.specs.FileZones.{clocks_in}
 use Rattle.ics_series.proofs.VersionLemmas.{stands}
 use Rattle.ics_listing.proofs.Cases.{some-same}
-use Rattle.ics_series.proofs.RecurringLemmas.{IsRead, not-single, series-listing}
-use Rattle.ics_series.proofs.SpanLemmas.{first_source}
-use Rattle.ics_series.proofs.ZoneLemmas.{own-event}
+use Rattle.ics_series.proofs.RecurringLemmas.{behind, IsRead, not-single, series-listing}
+use Rattle.ics_series.proofs.MarkLemmas.{first_source}
+use Rattle.ics_starts.proofs.ZoneLemmas.{own-event}
 use Rattle.ics_series.proofs.masters.series_at.Goals as goal
 
 pub event-event-requires : goal.event-event-requires
@@ -28,7 +26,7 @@ returns-then-is_single c =
     let here : slice_get c.args.chosen.now c.args.place ≡ Some c.index-chosen-place.result =
     slice_get_read c.args.chosen.now _ c.args.place c.index-chosen-place.result refl c.requires.within c.index-chosen-place.is in
     record {
-      since = λ none. tt;
+      since = λ version there. tt;
       begun = tt;
       sources = λ version there. tt;
       series = λ version there.
@@ -63,15 +61,14 @@ returns c =
       series = λ version there.
           rw (← some-same c.index-chosen-place.result version (sym here ∙ there))
           (series-listing r read c.args.window after (to_z w64 (of_z w64 c.since_of-since.result)) since c.in_ok-series.ensures.listing);
-      since = λ none.
+      since = λ version there.
           let first = ap
           (first_source (record
           { clocks = clocks_in c.zones-zones.result; event = c.event-event.result.now; window = c.args.window; since = c.args.window.from }))
           c.in_ok-series.ensures.sources in
-          let same = ap (λ (r : Recurring). r.since) first in
-          let always = c.since_of-since.ensures.always none in
-          subst (λ (x : Window). c.in_ok-series.series.since ≤ℤ x.from) (sym (ap (λ (r : Recurring). r.window) first))
-          (omega (arith, ints, same, fits, always, c.args.window.not_early));
+          rw (← some-same c.index-chosen-place.result version (sym here ∙ there))
+          (subst (IsBehind (map said_by c.args.files.now) (display_clock c.args.display.now) c.args.window after (seen c.index-chosen-place.result))
+          (sym (ap (λ (r : Recurring). r.since) first)) (behind r read c.args.window after (to_z w64 (of_z w64 c.since_of-since.result)) since));
       sources = λ version there. (
         record {
           clocks = clocks_in c.zones-zones.result;

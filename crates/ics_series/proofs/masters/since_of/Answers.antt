@@ -1,4 +1,4 @@
-use Rattle.std.proofs.Common.{◌≡◌, ◌+ℤ◌, ◌∙◌, ℤ, None, Some, rules, pos, w64, to_z, of_z, ap, refl, sym, arith, SFits, option_map, nat_cmp}
+use Rattle.std.proofs.Common.{◌≡◌, ◌+ℤ◌, ◌∙◌, ℤ, rules, pos, w64, to_z, of_z, ap, sym, arith, SFits, option_map, nat_cmp}
 use Rattle.std.proofs.lemmas.Int.{ints}
 use Rattle.std.specs.Cmp.Lexicographic.{slice_cmp}
 use Rattle.std.specs.Int.{saturate_signed}
@@ -11,7 +11,7 @@ use Rattle.ics_series.proofs.masters.since_of.Goals as goal
 pub returns-in_default : goal.returns-in_default
 returns-in_default c =
     let none = ap (option_map (λ key. key_rank key.now)) c.in_default.is in
-    record { since = since-none _ c.args.uid.now none; from = rw none tt; always = λ e. refl }
+    record { since = since-none _ c.args.uid.now none; from = rw none tt }
 
 pub returns-in-Greater : goal.returns-in-Greater
 returns-in-Greater c =
@@ -23,7 +23,6 @@ returns-in-Greater c =
     record {
       since = since-start c.args.uid.now is (sym order ∙ c.in-Greater.is) fits;
       from = rw is (omega (arith, ints, fits));
-      always = λ e. let f : None ≡ Some key = sym e ∙ is in absurd cc;
     }
 
 pub returns-in_default-then : goal.returns-in_default-then
@@ -40,5 +39,4 @@ returns-in_default-then c =
     record {
       since = since-next c.args.uid.now is (λ g. c.in_default-then.not-Greater (order ∙ g)) next fits;
       from = rw is (from-next key _ next fits);
-      always = λ e. let f : None ≡ Some key = sym e ∙ is in absurd cc;
     }

@@ -6,7 +6,7 @@ use Rattle.std.proofs.lemmas.Int.{int_max_is, int_min_is, ints}
 use Rattle.ics_zone.proofs.Cases.{int_le_true}
 use Rattle.ics_listing.specs.declared.window.Window.{Window}
 use Rattle.ics_listing.specs.FileClocks.{Clock}
-use Rattle.ics_series.specs.Clocks.{display_clock}
+use Rattle.ics_starts.specs.Clocks.{display_clock}
 use Rattle.ics_series.specs.OnDays.{date_at, end_day, first_day, is_on, last_day}
 use Rattle.ics_listing.specs.Entry.{Entry, entry_of}
 use Rattle.ics_listing.specs.WindowBounds.{occurrence_first}

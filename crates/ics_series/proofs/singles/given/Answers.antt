@@ -1,8 +1,9 @@
 use Rattle.std.proofs.Common.{◌∙◌, None, Some, map, ap, sym, option_map}
 use Rattle.ics_file.specs.File.{said_by}
-use Rattle.ics_series.specs.Clocks.{display_clock}
+use Rattle.ics_starts.specs.Clocks.{display_clock}
 use Rattle.ics_listing.specs.Entry.{key_rank}
-use Rattle.ics_series.specs.Singles.{is_to_come, single_entry}
+use Rattle.ics_series.specs.Singles.{is_to_come}
+use Rattle.ics_starts.specs.SingleEvents.{single_entry}
 use Rattle.ics_series.specs.Versions.{seen}
 use Rattle.ics_series.proofs.SinglesLemmas.{gives-begun, gives-other}
 use Rattle.ics_series.proofs.singles.given.Goals as goal

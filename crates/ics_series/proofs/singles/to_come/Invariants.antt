@@ -1,9 +1,10 @@
 use Rattle.std.proofs.Common.{◌≡◌, ◌++◌, map, drop, option_map}
 use Rattle.std.specs.List.{filter_map}
 use Rattle.ics_file.specs.File.{said_by}
-use Rattle.ics_series.specs.Clocks.{display_clock}
+use Rattle.ics_starts.specs.Clocks.{display_clock}
 use Rattle.ics_listing.specs.Entry.{key_rank}
-use Rattle.ics_series.specs.Singles.{single_at, single_entry}
+use Rattle.ics_series.specs.Singles.{single_at}
+use Rattle.ics_starts.specs.SingleEvents.{single_entry}
 use Rattle.ics_series.specs.Versions.{seen}
 use Rattle.ics_series.proofs.singles.to_come.Given as goal
 

@@ -1,9 +1,9 @@
 use Rattle.std.proofs.Common.{◌≡◌, None, Some, map, rules, sym, ◌∙◌, ap, arith, w64, to_z, of_z}
 use Rattle.std.proofs.lemmas.Int.{ints}
 use Rattle.ics_file.specs.File.{said_by}
-use Rattle.ics_series.specs.Clocks.{display_clock}
+use Rattle.ics_starts.specs.Clocks.{display_clock}
 use Rattle.ics_listing.specs.Entry.{Entry}
-use Rattle.ics_series.specs.Singles.{single_entry}
+use Rattle.ics_starts.specs.SingleEvents.{single_entry}
 use Rattle.ics_series.specs.Versions.{seen}
 use Rattle.ics_series.proofs.SpanLemmas.{span-recurring, span-single}
 use Rattle.ics_series.proofs.span.span_at.Goals as goal

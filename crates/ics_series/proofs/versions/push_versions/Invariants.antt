@@ -1,7 +1,7 @@
 use Rattle.std.proofs.Common.{◌≡◌, ℕ, ◌<◌, ◌++◌, Some, map, drop, slice_get}
 use Rattle.ics_event.specs.declared.event.Event.{Event}
 use Rattle.ics_series.specs.Versions.{label_by, placed_from, seen}
-use Rattle.ics_series.specs.FileZones.{clocks_in}
+use Rattle.ics_starts.specs.FileZones.{clocks_in}
 use Rattle.ics_series.specs.Inner.Whole.{IsReadEvent}
 use Rattle.ics_series.proofs.versions.push_versions.Given as goal
 

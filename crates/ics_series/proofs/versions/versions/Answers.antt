@@ -4,7 +4,7 @@ use Rattle.std.proofs.lemmas.List.{length-map}
 use Rattle.std.proofs.lemmas.Option.{slice_get_read, slice_get_within}
 use Rattle.ics_file.specs.File.{said_by}
 use Rattle.ics_file.specs.declared.events.FileEvents.{FileEvents}
-use Rattle.ics_series.specs.Clocks.{display_clock}
+use Rattle.ics_starts.specs.Clocks.{display_clock}
 use Rattle.ics_series.specs.Versions.{seen}
 use Rattle.ics_series.proofs.VersionLemmas.{labels-step}
 use Rattle.ics_series.proofs.WholeLemmas.{read-step}

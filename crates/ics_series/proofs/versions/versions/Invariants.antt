@@ -1,6 +1,6 @@
 use Rattle.std.proofs.Common.{◌≡◌, ◌<◌, ◌++◌, map, drop}
 use Rattle.ics_file.specs.File.{said_by}
-use Rattle.ics_series.specs.Clocks.{display_clock}
+use Rattle.ics_starts.specs.Clocks.{display_clock}
 use Rattle.ics_series.specs.PlacedEvents.{IsPlaced, Placed}
 use Rattle.ics_series.specs.Versions.{label_of, placed_in, seen}
 use Rattle.ics_series.specs.Inner.Whole.{IsReadEvent}

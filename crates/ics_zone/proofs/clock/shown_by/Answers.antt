@@ -3,7 +3,7 @@ use Rattle.std.specs.Int.{int_max, int_min}
 use Rattle.jiff_core.specs.Calendar.{IsWithin}
 use Rattle.std.proofs.lemmas.Int.{ints, clamps, to_z-of_z}
 use Rattle.ics_zone.specs.Observances.{epoch}
-use Rattle.ics_rule.specs.PeriodNumbers.{rules_end}
+use Rattle.ics_period.specs.PeriodNumbers.{rules_end}
 use Rattle.ics_zone.specs.Inner.OnsetSets.{IsShownBy}
 use Rattle.ics_zone.proofs.clock.shown_by.Goals as goal
 

@@ -1,6 +1,6 @@
 use Rattle.std.proofs.Common.{◌≤◌, ◌+◌, ◌-◌}
 use Rattle.ics_rule.specs.Cursors.{place_of, IsCursorOf}
-use Rattle.ics_rule.specs.PeriodNumbers.{rules_end}
+use Rattle.ics_period.specs.PeriodNumbers.{rules_end}
 use Rattle.ics_zone.specs.Inner.Latest.{IsKnownLast}
 use Rattle.ics_zone.proofs.kept.last_of_all.Given as goal
 

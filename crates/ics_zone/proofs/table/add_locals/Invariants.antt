@@ -1,7 +1,7 @@
 use Rattle.std.proofs.Common.{◌≡◌, ◌⊎◌, ℕ, ◌-◌, ◌<◌, ◌≤◌, true, Contains, ℤ}
 use Rattle.ics_rule.specs.Cursors.{place_of, IsCursorOf}
 use Rattle.ics_rule.specs.Kept.{is_kept}
-use Rattle.ics_rule.specs.PeriodNumbers.{rules_end}
+use Rattle.ics_period.specs.PeriodNumbers.{rules_end}
 use Rattle.ics_zone.specs.Observances.{instant_by}
 use Rattle.ics_zone.specs.Inner.Tables.{onset_number, IsKeptNumber}
 use Rattle.ics_zone.proofs.table.add_locals.Given as goal

@@ -1,5 +1,5 @@
 use Rattle.std.proofs.Common.{◌≡◌, ◌∙◌, ap, arith}
-use Rattle.ics_rule.specs.Recurrence.{Recurrence}
+use Rattle.ics_period.specs.Recurrence.{Recurrence}
 use Rattle.ics_fields.specs.Locals.{number}
 use Rattle.ics_rule.specs.Cursors.{IsCursorOf, HasLooked}
 use Rattle.ics_rule.proofs.cursor.Cursor.next.Goals as goal

@@ -1,6 +1,6 @@
 use Rattle.std.proofs.Common.{◌≡◌, ℕ, ◌+◌, ◌<◌, ◌≤◌, nat_lt, max, MatchOption, refl, arith}
 use Rattle.ics_fields.specs.Locals.{number}
-use Rattle.ics_rule.specs.PeriodNumbers.{rules_end}
+use Rattle.ics_period.specs.PeriodNumbers.{rules_end}
 use Rattle.ics_rule.specs.Kept.{is_by_until}
 use Rattle.ics_rule.proofs.NextLemmas.{next_start, kept_earlier, none_kept, next_kept, kept_answer}
 use Rattle.ics_rule.proofs.CursorLemmas.{own_at, own_moved, looked_found, looked_walked}

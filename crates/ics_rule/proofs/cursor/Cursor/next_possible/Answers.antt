@@ -1,7 +1,7 @@
 use Rattle.std.proofs.Common.{◌≡◌, ◌+◌, suc, arith}
 use Rattle.jiff_core.specs.Weekday.{monday_zero}
-use Rattle.ics_rule.specs.Candidates.{period_in}
-use Rattle.ics_rule.proofs.PeriodLemmas.{begun, is_short}
+use Rattle.ics_period.specs.Candidates.{period_in}
+use Rattle.ics_period.proofs.PeriodLemmas.{begun, is_short}
 use Rattle.ics_rule.proofs.QuietLemmas.{held_next, held_none, joined}
 use Rattle.ics_rule.proofs.cursor.Cursor.next_possible.Goals as goal
 use Rattle.ics_rule.proofs.cursor.Cursor.next_possible.Goals.{Then-number-own}

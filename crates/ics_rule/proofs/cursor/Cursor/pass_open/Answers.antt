@@ -2,7 +2,7 @@ use Rattle.std.proofs.Common.{◌+◌, ◌*◌, ◌/◌, ◌<◌, ◌≤◌, ◌
 use Rattle.std.proofs.lemmas.Nat.{div-add-mod'}
 use Rattle.std.proofs.Math.Nat.{mul-le-mul_right, mul_comm}
 use Rattle.jiff_core.specs.Weekday.{monday_zero}
-use Rattle.ics_rule.specs.Candidates.{is_stepped, period_in}
+use Rattle.ics_period.specs.Candidates.{is_stepped, period_in}
 use Rattle.ics_rule.specs.Inner.Rounds.{seconds_of, chosen_to}
 use Rattle.ics_rule.proofs.StepLemmas.{stepped_parts}
 use Rattle.ics_rule.proofs.RoundLemmas.{step_repeats}

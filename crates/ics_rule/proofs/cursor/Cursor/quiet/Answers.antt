@@ -1,6 +1,6 @@
 use Rattle.std.proofs.Common.{◌≡◌, ◌∙◌, ap}
 use Rattle.ics_fields.specs.Locals.{number}
-use Rattle.ics_rule.specs.Recurrence.{Recurrence}
+use Rattle.ics_period.specs.Recurrence.{Recurrence}
 use Rattle.ics_rule.specs.Cursors.{IsCursorOf}
 use Rattle.ics_rule.proofs.cursor.Cursor.quiet.Goals as goal
 use Rattle.ics_rule.proofs.cursor.Cursor.quiet.Goals.{After-number}

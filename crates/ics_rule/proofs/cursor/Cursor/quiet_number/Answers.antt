@@ -1,8 +1,8 @@
 use Rattle.std.proofs.Common.{◌≡◌, ℕ, ◌<◌, nat_lt, arith}
 use Rattle.ics_fields.specs.Locals.{number}
-use Rattle.ics_rule.specs.PeriodNumbers.{rules_end}
+use Rattle.ics_period.specs.PeriodNumbers.{rules_end}
 use Rattle.ics_rule.specs.Cursors.{IsCursorIn}
-use Rattle.ics_rule.specs.EffectiveRules.{effective}
+use Rattle.ics_period.specs.EffectiveRules.{effective}
 use Rattle.ics_rule.specs.Kept.{is_by_until}
 use Rattle.ics_rule.proofs.CursorLemmas.{not_wanted}
 use Rattle.ics_rule.proofs.NextLemmas.{kept_earlier, none_kept}

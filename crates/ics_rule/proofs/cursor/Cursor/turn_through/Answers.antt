@@ -1,6 +1,6 @@
 use Rattle.std.proofs.Common.{◌≡◌, ◌∙◌, ◌+◌, ◌-◌, sym, arith}
 use Rattle.ics_rule.specs.Inner.Searches.{IsTurned}
-use Rattle.ics_rule.proofs.PeriodLemmas.{begun}
+use Rattle.ics_period.proofs.PeriodLemmas.{begun}
 use Rattle.ics_rule.proofs.CursorLemmas.{moved_none}
 use Rattle.ics_rule.proofs.CountingLemmas.{counting_begins, counting_goes_on, counting_stopped}
 use Rattle.ics_rule.proofs.PassedLemmas.{top_of, counting_passed, counting_room, there, none_within, not_past}

@@ -1,8 +1,8 @@
 use Rattle.std.proofs.Common.{◌≡◌, ◌∙◌, ℕ, ◌-◌, ◌≤◌, Some, None, sym, arith}
 use Rattle.ics_fields.specs.Sets.{IsLeastFrom}
 use Rattle.ics_fields.specs.Ordinals.{lists_none_wide}
-use Rattle.ics_rule.specs.Candidates.{period_in}
-use Rattle.ics_rule.specs.RecurrencePeriods.{is_taken}
+use Rattle.ics_period.specs.Candidates.{period_in}
+use Rattle.ics_period.specs.RecurrencePeriods.{is_taken}
 use Rattle.ics_rule.specs.Inner.Searches.{is_chosen_within}
 use Rattle.ics_rule.proofs.ChosenLemmas.{taken_within}
 use Rattle.ics_rule.proofs.CursorLemmas.{next_same, within_facts, walk_begins, walk_goes_on, walk_ended, walk_finds, walk_found, walk_stopped, walk_reach}

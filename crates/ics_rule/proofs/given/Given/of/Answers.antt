@@ -1,5 +1,5 @@
 use Rattle.std.proofs.Common.{◌∙◌, ap}
-use Rattle.ics_rule.specs.EffectiveRules.{effective_at}
+use Rattle.ics_period.specs.EffectiveRules.{effective_at}
 use Rattle.ics_rule.specs.Inner.Given.{parts_of}
 use Rattle.ics_rule.specs.declared.given.Given.{Given}
 use Rattle.ics_rule.proofs.GivenLemmas.{kept-given, parts-given}

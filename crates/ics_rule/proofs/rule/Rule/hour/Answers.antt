@@ -1,6 +1,6 @@
 use Rattle.std.proofs.Common.{◌∙◌, ap, sym}
 use Rattle.std.proofs.lemmas.Bool.{and_parts}
-use Rattle.ics_rule.specs.EffectiveRules.{effective}
+use Rattle.ics_period.specs.EffectiveRules.{effective}
 use Rattle.ics_rule.proofs.HourLemmas.{held_times}
 use Rattle.ics_rule.proofs.rule.Rule.hour.Goals as goal
 

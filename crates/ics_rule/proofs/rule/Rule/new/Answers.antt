@@ -1,11 +1,11 @@
 use Rattle.std.proofs.Common.{◌≡◌, ℕ, ◌∙◌, ap, sym}
 use Rattle.ics_fields.specs.Locals.{number}
 use Rattle.ics_fields.specs.RuleParts.{RuleParts}
-use Rattle.ics_rule.specs.EffectiveRules.{effective, effective_at}
+use Rattle.ics_period.specs.EffectiveRules.{effective, effective_at}
 use Rattle.ics_rule.specs.Inner.Given.{given_of, parts_of}
-use Rattle.ics_rule.specs.declared.effective_rule.EffectiveRule.{EffectiveRule}
+use Rattle.ics_period.specs.declared.effective_rule.EffectiveRule.{EffectiveRule}
 use Rattle.ics_rule.specs.declared.given.Given.{Given}
-use Rattle.ics_rule.specs.declared.kind.Kind.{Kind}
+use Rattle.ics_period.specs.declared.kind.Kind.{Kind}
 use Rattle.ics_rule.proofs.rule.Rule.new.Goals as goal
 
 -- the parts are got back from what a rule searches by and what is kept beside it

@@ -1,7 +1,7 @@
-use Rattle.std.proofs.Common.{map, option_map, sym, subst}
+use Rattle.std.proofs.Common.{map, option_map, sym, subst, None}
 use Rattle.std.proofs.lemmas.Result.{IfOk-weaker}
 use Rattle.ics_file.specs.File.{said_by}
-use Rattle.ics_series.specs.Clocks.{display_clock}
+use Rattle.ics_starts.specs.Clocks.{display_clock}
 use Rattle.ics_listing.specs.Entry.{key_rank}
 use Rattle.ics_series.specs.Inner.Marks.{AreMarks}
 use Rattle.ics_series.specs.Versions.{seen}
@@ -16,7 +16,7 @@ of-requires-clause-chosen c = rw c.deref.ensures.value c.in_ok-chosen.ensures.ch
 
 pub of-requires-clause-spans : goal.of-requires-clause-spans
 of-requires-clause-spans c =
-    no-spans (map said_by c.args.files.now) (display_clock c.args.display.now) c.args.window (map seen c.deref.result.now) c.new-spans.ensures.items
+    no-spans (map said_by c.args.files.now) (display_clock c.args.display.now) c.args.window None (map seen c.deref.result.now) c.new-spans.ensures.items
 
 pub of-requires-clause-marks : goal.of-requires-clause-marks
 of-requires-clause-marks c =
@@ -33,3 +33,6 @@ returns c = record {
   keys = IfOk-weaker c.of.result _ _ (λ agenda listing. keys c.args.files.now c.args.display.now c.in_ok-chosen.ensures.read) c.of.ensures.listing;
   sources = c.of.ensures.sources;
 }
+
+pub of-requires-clause-floor : goal.of-requires-clause-floor
+of-requires-clause-floor c = λ o after. tt

@@ -1,7 +1,7 @@
 use Rattle.std.proofs.Common.{◌∙◌, [], ◌∷◌, ◌++◌, List, filter, map, ap, option_map, refl, sym, subst}
 use Rattle.ics_file.specs.File.{said_by}
 use Rattle.ics_series.specs.declared.part.Part.TheVariants as part
-use Rattle.ics_series.specs.Clocks.{display_clock}
+use Rattle.ics_starts.specs.Clocks.{display_clock}
 use Rattle.ics_listing.specs.Entry.{entry_cmp, key_rank, Entry}
 use Rattle.ics_series.specs.AgendaParts.{part_coming}
 use Rattle.ics_listing.specs.Listing.{IsListing}
@@ -17,6 +17,9 @@ use Rattle.ics_series.proofs.agenda.Agenda.of.Goals as goal
 
 pub new-requires-clause-overrides : goal.new-requires-clause-overrides
 new-requires-clause-overrides c = ap (map seen) c.deref-2.ensures.value ∙ c.in_ok-overrides.ensures
+
+pub new-requires-clause-spans : goal.new-requires-clause-spans
+new-requires-clause-spans c = (c.args.floor, rw c.deref.ensures.value c.requires.spans)
 
 pub of_sorted-requires : goal.of_sorted-requires
 of_sorted-requires c =

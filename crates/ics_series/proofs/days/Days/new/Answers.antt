@@ -1,10 +1,11 @@
-use Rattle.std.proofs.Common.{rules, ◌≡◌, ◌∙◌, length, map, refl, ap, arith, to_z, of_z, w32, ◌≤ℤ◌, option_map}
+use Rattle.std.proofs.Common.{rules, ◌≡◌, ◌∙◌, length, map, refl, ap, subst, sym, arith, to_z, of_z, w32, ◌≤ℤ◌, option_map}
 use Rattle.std.proofs.lemmas.Int.{ints}
 use Rattle.std.proofs.lemmas.List.{length-map}
 use Rattle.ics_file.specs.File.{said_by}
 use Rattle.ics_zone.specs.Inner.Near.{offset_near}
 use Rattle.ics_series.specs.Ahead.{agenda_coming}
-use Rattle.ics_series.specs.Clocks.{display_clock}
+use Rattle.ics_starts.specs.Clocks.{display_clock}
+use Rattle.ics_series.specs.OnDays.{date_at}
 use Rattle.ics_series.specs.DaySteps.{agenda_sources, scope_in}
 use Rattle.ics_listing.specs.Entry.{key_rank}
 use Rattle.ics_listing.specs.DayKeys.{first_near, day_key_rank}
@@ -49,6 +50,7 @@ invariant_of-result c =
     let key = option_map (λ key. key_rank key.now) c.begin-day.result.1 in
     let scope = scope_in (map said_by c.args.files.now) (display_clock c.args.display.now) c.args.window c.day_and_start.result in
     let fits : to_z w32 (of_z w32 c.begin-day.result.0) ≡ c.begin-day.result.0 = search rules in
+    let last : to_z w32 (of_z w32 c.last_shown-last.result) ≡ c.last_shown-last.result = search rules in
     let low = c.begin-day.ensures.begins.low in
     let behind = rw (← fits) at c.begin-day.ensures.behind in
     let spanned = rw c.deref.ensures.value at c.in_ok-spans.ensures in
@@ -64,4 +66,7 @@ invariant_of-result c =
       masters = ∣ first-masters scope from c.in_ok-agenda.ensures.agenda ∣₁;
       before = λ masters most n all bounds is. omega arith;
       past = λ l. refl;
+      shown = λ t to. subst (λ d. date_at (display_clock c.args.display.now) t ≤ℤ d) (sym last) (c.last_shown-last.ensures.shown t to);
+      within = omega (arith, ints, last, c.last_shown-last.ensures.near);
+      below = c.key_below-floor.ensures;
     }

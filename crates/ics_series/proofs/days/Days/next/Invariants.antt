@@ -7,10 +7,10 @@ use Rattle.ics_series.proofs.days.Days.next.Given as goal
 abbrev pub invariant-loop-occurrence : goal.invariant-loop-occurrence
 invariant-loop-occurrence l = record {
   scope : scope_of l.self ≡ scope_of l.initial.self;
-  window : l.self.window ≡ l.initial.self.window;
+  last : l.self.last ≡ l.initial.self.last;
   looked : l.initial.self.today.looked ≤ l.self.today.looked;
   ahead : (list : List OnDay) → IsAhead l.initial.self list → IsAhead l.self list;
 }
 
 abbrev pub decreases-loop-occurrence : goal.decreases-loop-occurrence
-decreases-loop-occurrence l = unsigned_abs (l.last -ℤ l.self.today.day)
+decreases-loop-occurrence l = unsigned_abs (l.self.last -ℤ l.self.today.day)

@@ -3,7 +3,7 @@ use Rattle.std.proofs.lemmas.Bool.{and_parts}
 use Rattle.ics_fields.specs.Days.{IsDayNumber}
 use Rattle.ics_file.specs.File.{said_by}
 use Rattle.ics_series.specs.Ahead.{agenda_coming}
-use Rattle.ics_series.specs.Clocks.{display_clock}
+use Rattle.ics_starts.specs.Clocks.{display_clock}
 use Rattle.ics_listing.specs.Entry.{entry_of}
 use Rattle.ics_series.proofs.AheadLemmas.{ahead-given, ahead-skipped}
 use Rattle.ics_series.proofs.days.Days.next_today.Goals as goal
@@ -22,7 +22,7 @@ pub loop-occurrence-preserved : goal.loop-occurrence-preserved
 loop-occurrence-preserved c = record {
   day = c.loop-occurrence.invariant.day;
   scope = c.loop-occurrence.invariant.scope;
-  window = c.loop-occurrence.invariant.window;
+  last = c.loop-occurrence.invariant.last;
   looked = c.loop-occurrence.invariant.looked;
   ahead = λ list a.
       let self = c.loop-occurrence.self in

@@ -8,7 +8,7 @@ abbrev pub invariant-loop-occurrence : goal.invariant-loop-occurrence
 invariant-loop-occurrence l = record {
   day : l.self.today.day ≡ l.fn.self.today.day;
   scope : scope_of l.self ≡ scope_of l.fn.self;
-  window : l.self.window ≡ l.fn.self.window;
+  last : l.self.last ≡ l.fn.self.last;
   looked : l.self.today.looked ≡ l.fn.self.today.looked;
   ahead : (list : List OnDay) → IsAhead l.fn.self list → IsAhead l.self list;
 }

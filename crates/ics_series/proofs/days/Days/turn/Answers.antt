@@ -1,11 +1,13 @@
-use Rattle.std.proofs.Common.{◌≡◌, ◌∙◌, ◌<ℤ◌, map, None, arith, rules, to_z, of_z, w32}
+use Rattle.std.proofs.Common.{◌≡◌, ◌∙◌, ◌<ℤ◌, map, option_map, true, subst, arith, rules, to_z, of_z, w32}
+use Rattle.ics_series.specs.OnDays.{is_on}
+use Rattle.ics_listing.specs.Entry.{key_rank}
 use Rattle.std.proofs.Math.Bridge.{le_prop}
 use Rattle.std.proofs.Math.Logic.{∥∥₁_elim}
 use Rattle.std.proofs.lemmas.Int.{ints}
 use Rattle.ics_file.specs.File.{said_by}
 use Rattle.ics_zone.specs.Inner.Near.{offset_near}
 use Rattle.ics_series.specs.Ahead.{agenda_coming}
-use Rattle.ics_series.specs.Clocks.{display_clock}
+use Rattle.ics_starts.specs.Clocks.{display_clock}
 use Rattle.ics_series.specs.DaySteps.{agenda_sources, scope_in}
 use Rattle.ics_series.specs.Sources.{recurring}
 use Rattle.ics_series.proofs.AheadLemmas.{ahead-turned, from-later, looked-next, searched-masters}
@@ -18,7 +20,7 @@ near_day-near-requires c =
     let next = c.next_day-day in
     record {
       first = omega (arith, ints, next.type_inv, next.ensures.later, self.not_before);
-      last = omega (arith, ints, next.type_inv, next.ensures.last);
+      last = omega (arith, ints, next.type_inv, next.ensures.last, self.within);
     }
 
 pub of-requires-clause-chosen : goal.of-requires-clause-chosen
@@ -26,10 +28,13 @@ of-requires-clause-chosen c =
     let self = c.args.self.now in
     rw c.deref-2.ensures.value (chosen-back (map said_by self.files.now) (display_clock self.display.now) self.versions.items self.chosen)
 
+pub of-requires-clause-floor : goal.of-requires-clause-floor
+of-requires-clause-floor c = rw (← c.floor_of.ensures) at c.key_near-key.ensures.floor
+
 pub of-requires-clause-spans : goal.of-requires-clause-spans
 of-requires-clause-spans c =
     let self = c.args.self.now in
-    rw c.deref-2.ensures.value
+    rw (c.deref-2.ensures.value, c.floor_of.ensures)
     (self.spanned (to_z w32 (of_z w32 c.next_day-day.result)) c.near_day-near.result
     (omega (arith, ints, c.next_day-day.type_inv, c.next_day-day.ensures.later)) c.near_day-near.ensures)
 
@@ -39,7 +44,7 @@ invariant_of-self c =
     let self = c.args.self.now in
     let files = map said_by self.files.now in
     let display = display_clock self.display.now in
-    let moved = rw c.deref-2.ensures.value at c.of.ensures.spans in
+    let moved = rw (c.deref-2.ensures.value, c.floor_of.ensures) at c.of.ensures.spans in
     let same : to_z w32 (of_z w32 c.next_day-day.result) ≡ c.next_day-day.result = omega (arith, ints, c.next_day-day.type_inv) in
     let fits : to_z w32 (of_z w32 c.args.self.now.today.day) ≡ c.args.self.now.today.day = search rules in
     let none = rw (fits, ← same, c.deref.ensures.value) at c.next_day-day.ensures.none in
@@ -54,6 +59,9 @@ invariant_of-self c =
       masters = self.masters;
       before = self.before;
       past = self.past;
+      shown = self.shown;
+      within = self.within;
+      below = self.below;
     }
 
 pub invariant_of-self-3 : goal.invariant_of-self-3
@@ -66,7 +74,7 @@ invariant_of-self-3 c =
     let begun = self.begun in
     let files = map said_by self.files.now in
     let display = display_clock self.display.now in
-    let moved = rw c.deref-2.ensures.value at c.of.ensures.spans in
+    let moved = rw (c.deref-2.ensures.value, c.floor_of.ensures) at c.of.ensures.spans in
     record {
       chosen = self.chosen;
       sized = moved.size ∙ self.sized;
@@ -76,7 +84,7 @@ invariant_of-self-3 c =
       not_before = omega (arith, ints, day, next.ensures.later, self.not_before);
       begun = omega (arith, ints, day, next.ensures.later, begun);
       masters =
-          ∣ searched-masters scope None c.near_day-near.ensures
+          ∣ searched-masters scope (option_map (λ key. key_rank key.now) c.key_near-key.result) c.near_day-near.ensures
           (λ since f. from-later self.window self.after self.begun (omega (arith, ints, day, next.ensures.later)) since)
           (recurring (agenda_sources c.in_ok-agenda.agenda)) c.in_ok-agenda.ensures.sources.each ∣₁;
       before = λ masters most n all bounds is. ∥∥₁_elim c.args.self.now.masters le_prop (λ are.
@@ -85,7 +93,10 @@ invariant_of-self-3 c =
           c.steps.result c.steps.ensures.most
           (to_z w32 (of_z w32 c.next_day-day.result)) c.saturating_add-looked.result (omega (arith, ints, day, next.ensures.later))
           (omega (arith, c.saturating_add-looked.ensures)) masters most n all bounds is);
-      past = λ l. absurd (omega (arith, ints, l, next.ensures.last, day));
+      past = λ l. absurd (omega (arith, ints, l, next.ensures.last, day, self.within));
+      shown = self.shown;
+      within = self.within;
+      below = self.below;
     }
 
 pub returns-clause-day : goal.returns-clause-day
@@ -108,6 +119,8 @@ returns-clause-ahead c = λ list a.
     let none = rw (fits, ← same, c.deref.ensures.value) at c.next_day-day.ensures.none in
     let near = offset_near self.display.now in
     let chosen = chosen-back files display self.versions.items self.chosen in
-    ahead-turned files display near self.window later
+    let key = option_map (λ key. key_rank key.now) c.key_near-key.result in
+    ahead-turned files display near self.window key
+    (λ p u. c.key_near-key.ensures.shown p.entry u.0.listed.1 (subst (λ d. is_on display self.window p.entry d ≡ true) u.1 u.0.on)) later
     (none-between files display near self.window self.versions.items chosen self.spans.items self.sized self.spanned none)
     c.near_day-near.ensures c.requires.none c.in_ok-agenda.ensures.listing a

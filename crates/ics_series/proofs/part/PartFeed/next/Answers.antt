@@ -2,7 +2,7 @@ use Rattle.std.proofs.lemmas.Grind.{common_steps}
 use Rattle.std.proofs.Common.{sym, subst, arith}
 use Rattle.ics_listing.specs.Listing.{IsIn}
 use Rattle.ics_series.specs.AgendaParts.{part_coming}
-use Rattle.ics_series.specs.SeriesFeed.{series_left, series_of}
+use Rattle.ics_starts.specs.SeriesFeed.{series_left, series_of}
 use Rattle.ics_series.proofs.part.PartFeed.next.Goals as goal
 
 pub returns-in-Series-clause-near : goal.returns-in-Series-clause-near

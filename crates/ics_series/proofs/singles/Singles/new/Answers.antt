@@ -2,7 +2,7 @@ use Rattle.std.proofs.Common.{◌≡◌, true, map, rules, option_map}
 use Rattle.std.specs.Ordering.{on}
 use Rattle.std.proofs.lemmas.Cmp.{on_total}
 use Rattle.ics_listing.specs.Entry.{entry_cmp, key_rank}
-use Rattle.ics_series.specs.Singles.{is_single, single_entry}
+use Rattle.ics_starts.specs.SingleEvents.{is_single, single_entry}
 use Rattle.ics_listing.specs.Inner.EntryLaws.{entry_total}
 use Rattle.ics_series.proofs.OverrideLemmas.{overrides-sorted}
 use Rattle.ics_series.proofs.SinglesLemmas.{singles-listing}

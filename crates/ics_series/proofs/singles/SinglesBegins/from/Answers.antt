@@ -1,7 +1,7 @@
 use Rattle.std.proofs.Common.{◌≡◌, true, map, arith}
 use Rattle.std.specs.Vec.Iter.{into_iter_items}
 use Rattle.std.proofs.lemmas.Int.{ints}
-use Rattle.ics_series.specs.Singles.{is_single, single_entry}
+use Rattle.ics_starts.specs.SingleEvents.{is_single, single_entry}
 use Rattle.ics_listing.proofs.ListingLemmas.{all-in}
 use Rattle.ics_series.proofs.SinglesLemmas.{singles-late}
 use Rattle.ics_series.proofs.singles.SinglesBegins.from.Goals as goal

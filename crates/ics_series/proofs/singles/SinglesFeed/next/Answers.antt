@@ -1,7 +1,7 @@
 use Rattle.std.proofs.lemmas.Grind.{common_steps}
 use Rattle.std.proofs.Common.{◌≡◌, true, map, arith}
 use Rattle.std.specs.Vec.Iter.{into_iter_items}
-use Rattle.ics_series.specs.Singles.{is_single, single_entry}
+use Rattle.ics_starts.specs.SingleEvents.{is_single, single_entry}
 use Rattle.ics_listing.proofs.ListingLemmas.{all-in}
 use Rattle.ics_series.proofs.singles.SinglesFeed.next.Goals as goal
 

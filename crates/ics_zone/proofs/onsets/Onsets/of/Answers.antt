@@ -15,7 +15,7 @@ use Rattle.ics_zone.proofs.Cases.{int_le_true, true_int_le}
 use Rattle.ics_zone.proofs.EndLemmas.{kept_early}
 use Rattle.ics_zone.proofs.QuietLemmas.{quiet_is}
 use Rattle.ics_zone.proofs.OnsetLemmas.{onset-local, local-onset}
-use Rattle.ics_rule.specs.PeriodNumbers.{rules_end}
+use Rattle.ics_period.specs.PeriodNumbers.{rules_end}
 use Rattle.ics_zone.proofs.onsets.Onsets.of.Goals as goal
 
 same_or : (a b c : Bool) → (a || (b || c)) ≡ ((a || b) || c)

@@ -1,0 +1,85 @@
+-- Members by their number, and the members at listed places.
+use Rattle.std.proofs.Common.{◌≡◌, ℕ, zero, suc, ◌+◌, ◌-◌, ◌*◌, ◌/◌, ◌%◌, ◌<◌, ◌≤◌, inl, inr, Bool, true, false, cond, ◌&&◌, refl, sym, ◌∙◌, arith}
+use Rattle.std.proofs.lemmas.Bool.{cases_lt}
+use Rattle.std.proofs.lemmas.Nat.{div-add-mod'}
+use Rattle.std.proofs.Math.Nat.{mod-lt, mul-le-mul_right}
+use Rattle.std.proofs.lemmas.Bool.Decides.{nat_tests}
+use Rattle.ics_fields.specs.Sets.{IsLeastFrom}
+use Rattle.ics_period.specs.Ranks.{count}
+use Rattle.ics_period.specs.RecurrencePeriods.{IsNth, is_listed}
+use Rattle.ics_period.specs.Candidates.{lists_wide}
+use Rattle.ics_fields.specs.declared.ordinals.WideOrdinals.{WideOrdinals}
+use Rattle.ics_period.proofs.Counts.{count-suc, count-add, count-none, count_mono, count_one_more, count_one, count_none_at}
+
+-- what no number between two passes counts alike up to both
+pub count_flat : (a b : ℕ) (test : ℕ → Bool) → a ≤ b → ((m : ℕ) → a ≤ m → m < b → test m ≡ false) → count b test ≡ count a test
+count_flat a b test h none =
+    let rest = count-none (b - a) (λ k. test (a + k)) (λ k l. none (a + k) (omega arith) (omega arith)) in
+    grind (arith, count-add a (b - a) test)
+
+-- a walk from member to member that counts them
+module _ (test : ℕ → Bool) (place passed n : ℕ) (next : IsLeastFrom test place n) (own : passed ≡ count place test) where
+  pub before_next : count n test ≡ passed
+  before_next = count_flat place n test next.low next.least ∙ sym own
+
+  pub nth_next : passed + 1 ≡ count (n + 1) test
+  nth_next = grind (arith, before_next, count-suc n test, count_one (test n) next.passes)
+
+pub nth_done : (test : ℕ → Bool) (place passed bound : ℕ) → ((m : ℕ) → place ≤ m → test m ≡ false) → passed ≡ count place test → count bound test ≤ passed
+nth_done test place passed bound none own = grind (arith, cases_lt, count_flat, count_mono)
+
+-- an index of a product, by the size of a block
+pub block_index : (k a s : ℕ) → k < a * s → (k / s < a) × (k % s < s)
+block_index k a s h = grind (arith, cases_lt, div-add-mod', mod-lt, mul-le-mul_right)
+
+-- how many members at listed places come before n
+pub count-ranked : (n : ℕ) (p listed : ℕ → Bool) → count n (λ m. p m && listed (count m p)) ≡ count (count n p) listed
+unfolding count
+count-ranked zero p listed = refl
+count-ranked (suc n) p listed = step (p n) (count n p) (count n (λ m. p m && listed (count m p))) (count-ranked n p listed)
+  where
+    step : (b : Bool) (c x : ℕ) → x ≡ count c listed → x + cond (b && listed c) 1 0 ≡ count (c + cond b 1 0) listed
+    step true c x e = let one : c + 1 ≡ suc c = omega arith in rw (one, e) refl
+    step false c x e = let none : c + 0 ≡ c = omega arith in rw (none, e) (omega arith)
+
+-- the k-th of those that pass
+abbrev pub IsAt : (ℕ → Bool) → ℕ → ℕ → Type 0
+IsAt test k m = (test m ≡ true) × (count (suc m) test ≡ k)
+
+-- there is one for each k up to their number
+pub found : (test : ℕ → Bool) (k end : ℕ) → 1 ≤ k → k ≤ count end test → (m : ℕ) × ((m < end) × IsAt test k m)
+unfolding count
+found test k zero low high = absurd (omega (arith, low, high))
+found test k (suc end) low high = elim (cases_lt (count end test) k) [
+  | inl last ↦ at_end (test end) refl last
+  | inr before ↦ let m = found test k end low before in (m.0, (omega (arith, m.1.0), m.1.1))
+]
+  where
+    at_end : (b : Bool) → test end ≡ b → count end test < k → (m : ℕ) × ((m < suc end) × IsAt test k m)
+    at_end b h l = grind (arith, nat_tests, count_none_at, count_one)
+
+-- the rank of one that passes is one more than how many pass before it
+pub rank_listed : (positions : WideOrdinals) (p : ℕ → Bool) (k n : ℕ)
+    → (p k && lists_wide positions (count (suc k) p) n) ≡ (p k && is_listed positions n (count k p))
+rank_listed positions p k n = grind (arith, count-suc k p, count_one (p k))
+
+-- of the numbers below len that pass, those at a place that BYSETPOS lists, or all if it is absent
+abbrev pub placed_of : WideOrdinals → Bool → (ℕ → Bool) → ℕ → ℕ → Bool
+placed_of positions true test len k = test k
+placed_of positions false test len k = test k && is_listed positions (count len test) (count k test)
+
+-- the next of them is the member with the next listed number
+module _ (p listed : ℕ → Bool) (n : ℕ) where
+  abbrev test : ℕ → Bool
+  test m = p m && listed (count m p)
+
+  pub next_ranked : (i m : ℕ) → IsLeastFrom listed (count n p) i → IsNth p i m → IsLeastFrom test n m
+  next_ranked i m next nth = grind (arith, nat_tests, cases_lt, count_mono, count_one_more)
+
+  pub none_ranked : {size : ℕ} (bound : ℕ) → size ≡ count bound p → ((m : ℕ) → bound ≤ m → p m ≡ false)
+      → ((k : ℕ) → count n p ≤ k → k < size → listed k ≡ false) → (m : ℕ) → n ≤ m → test m ≡ false
+  none_ranked bound all past none m low =
+      let more = count_one_more m m p (omega arith) in
+      let up = count_mono (suc m) bound p in
+      let begun = count_mono n m p low in
+      grind (arith, nat_tests)

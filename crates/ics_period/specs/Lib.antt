@@ -1,0 +1,11 @@
+pub mod Recurrence
+pub mod PeriodNumbers
+pub mod EffectiveRules
+pub mod Candidates
+pub mod IsoWeeks
+pub mod Ranks
+pub mod RecurrencePeriods
+pub mod DateParts
+pub mod NearDays
+pub mod Runs
+pub mod Inner

@@ -1,0 +1,126 @@
+//! The members of a set by their rank, and the places that BYSETPOS lists.
+ghost use Rattle.std.specs.Prelude.{◌≡◌, ◌<◌, ◌≤◌, ◌+◌, ◌*◌, ◌/◌, ◌%◌, ◌^◌, IfSome};
+ghost use Rattle.ics_fields.specs.Sets.{contains, IsNextIn};
+ghost use Rattle.ics_fields.specs.Ordinals.{lists_none_wide};
+ghost use Rattle.ics_period.specs.declared.effective_rule.EffectiveRule.{EffectiveRule};
+ghost use Rattle.ics_period.specs.Ranks.{count};
+ghost use Rattle.ics_period.specs.RecurrencePeriods.{has_minute, has_second, holds, is_listed, is_taken, IsPeriodOf, IsNth, IsNextBelow, IsFirstListed};
+ghost use Rattle.ics_fields.specs.Locals.{calendar_end};
+
+use crate::members::{members_below, nth_member};
+use crate::part::PlacesPart;
+use crate::recurrence_period::RecurrencePeriod;
+use ics_fields::{BitSet, WideBitSet, WideOrdinals};
+
+/// The `k`-th minute of a day in a set of hours times a set of minutes.
+fn nth_minute(hours: BitSet, minutes: BitSet, k: u64) -> u32
+    requires set { minutes < 2 ^ 60 }
+    requires index { k < count 24 (contains hours) * count 60 (contains minutes) }
+    ensures nth { IsNth (has_minute hours minutes) k result }
+    ensures small { result < 30000 }
+{
+    let size = members_below(&minutes, 60);
+    nth_member(&hours, k / size) as u32 * 60 + nth_member(&minutes, k % size) as u32
+}
+
+/// The first index from `from` on at which a set lists the place after it, or `size` if there is none before that.
+fn next_front(front: &WideBitSet, from: u64, size: u64) -> u64
+    requires { size < 2 ^ 63 }
+    ensures { IsFirstListed front.now from size result }
+{
+    match front.next_from(from.min(383) as u16 + 1) {
+        Some(place) => size.min(place as u64 - 1),
+        None => size,
+    }
+}
+
+/// The least index from `from` on, of `size`, whose place BYSETPOS lists.
+fn next_listed(positions: &WideOrdinals, from: u64, size: u64) -> Option<u64>
+    requires { size < 2 ^ 63 }
+    ensures { IsNextBelow (is_listed positions.now size) from size result }
+{
+    let end = next_front(&positions.front, from, size);
+    for k in from.max(size.saturating_sub(383))..end {
+        if positions.back.contains((size - k) as u16) {
+            return Some(k);
+        }
+    }
+    if end < size { Some(end) } else { None }
+}
+
+/// How many of the first `k` places of `size` BYSETPOS lists.
+pub fn listed_below(positions: &WideOrdinals, k: u64, size: u64) -> u64
+    requires some { k ≤ size }
+    requires small { size < 2 ^ 63 }
+    ensures value { result ≡ count k (is_listed positions.now size) }
+    ensures bound { result ≤ k }
+{
+    let mut from = 0;
+    let mut total = 0;
+    while let Some(place) = next_listed(positions, from, size) {
+        if place >= k {
+            return total;
+        }
+        total += 1;
+        from = place + 1;
+    }
+    total
+}
+
+impl RecurrencePeriod {
+    /// The `k`-th second of a day in the product's times.
+    fn nth_second(&self, k: u64) -> u32
+        requires minutes { self.now.minutes < 2 ^ 60 }
+        requires seconds { self.now.seconds < 2 ^ 60 }
+        requires index { k < count 24 (contains self.now.hours) * count 60 (contains self.now.minutes) * count 60 (contains self.now.seconds) }
+        ensures nth { IsNth (has_second self.now) k result }
+        ensures small { result < 2000000 }
+    {
+        let size = members_below(&self.seconds, 60);
+        nth_minute(self.hours, self.minutes, k / size) * 60
+            + nth_member(&self.seconds, k % size) as u32
+    }
+
+    /// The `k`-th local of the product.
+    fn nth(&self, k: u64) -> u64
+        requires own { (q : EffectiveRule) × IsPeriodOf q self.now }
+        requires index { k < count calendar_end (holds self.now) }
+        ensures nth { IsNth (holds self.now) k result }
+        ensures small { result < 2 ^ 63 }
+    {
+        let size = self.seconds_below(86_400);
+        let day = self.first_day as u64 + nth_member(&self.days, k / size) as u64;
+        day * 86_400 + self.nth_second(k % size) as u64
+    }
+
+    /// The first local of the product, from a local on, that BYSETPOS allows.
+    pub fn next_taken(&self, positions: &PlacesPart, n: u64) -> Option<u64>
+        requires n { n < calendar_end }
+        requires own { (q : EffectiveRule) × IsPeriodOf q self.now }
+        ensures next { IsNextIn (is_taken positions.now (lists_none_wide positions.now) self.now) n result }
+        ensures small { IfSome result (λ m. m < calendar_end) }
+    {
+        if positions.is_empty() {
+            return self.next_from(n);
+        }
+        match next_listed(&positions.list, self.rank_before(n), self.size()) {
+            Some(place) => Some(self.nth(place)),
+            None => None,
+        }
+    }
+
+    /// How many locals that BYSETPOS allows are earlier than a local.
+    pub fn taken_before(&self, positions: &PlacesPart, n: u64) -> u64
+        requires n { n < calendar_end }
+        requires own { (q : EffectiveRule) × IsPeriodOf q self.now }
+        ensures value { result ≡ count n (is_taken positions.now (lists_none_wide positions.now) self.now) }
+        ensures bound { result ≤ n }
+    {
+        let rank = self.rank_before(n);
+        if positions.is_empty() {
+            rank
+        } else {
+            listed_below(&positions.list, rank, self.size())
+        }
+    }
+}

@@ -1,7 +1,0 @@
-use Rattle.std.proofs.Common.{◌≡◌, ℕ, ◌+◌, ◌&&◌, nat_lt}
-use Rattle.ics_fields.specs.Sets.{contains_wide}
-use Rattle.ics_rule.specs.Candidates.{lets_date}
-use Rattle.ics_rule.proofs.days.add_days_of_week.Given as goal
-
-abbrev pub invariant-loop-k : goal.invariant-loop-k
-invariant-loop-k l = (m : ℕ) → contains_wide l.days m ≡ (nat_lt m l.k && lets_date l.parts (l.first + m))

@@ -1,4 +1,0 @@
-use Rattle.ics_rule.proofs.effective.fill.Goals as goal
-
-pub returns-clause-interval : goal.returns-clause-interval
-returns-clause-interval c = c.parts.invariant.interval

@@ -1,5 +1,0 @@
-use Rattle.ics_rule.proofs.PlaceLemmas.{rank_there, rank_alone, rank_within}
-use Rattle.ics_rule.proofs.laws.ranks_are_places.Goals as goal
-
-pub returns : goal.returns
-returns c = record { there = rank_there; alone = rank_alone; within = rank_within }

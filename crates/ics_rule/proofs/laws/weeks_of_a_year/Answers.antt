@@ -1,5 +1,0 @@
-use Rattle.ics_rule.proofs.LawLemmas.{weeks_high, weeks_there, last_week}
-use Rattle.ics_rule.proofs.laws.weeks_of_a_year.Goals as goal
-
-pub returns : goal.returns
-returns c = record { high = weeks_high; there = λ f. (last_week f, weeks_there f) }

@@ -1,5 +1,0 @@
-use Rattle.ics_series.proofs.RawLemmas.{most-in-days}
-use Rattle.ics_series.proofs.laws.most_in_days.Goals as goal
-
-pub returns : goal.returns
-returns c = most-in-days

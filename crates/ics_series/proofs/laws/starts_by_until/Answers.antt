@@ -1,5 +1,0 @@
-use Rattle.ics_series.proofs.UntilLemmas.{starts-by_until}
-use Rattle.ics_series.proofs.laws.starts_by_until.Goals as goal
-
-pub returns : goal.returns
-returns c = starts-by_until

@@ -1,0 +1,79 @@
+-- Locals at which all is removed may be passed over.
+use Rattle.std.proofs.Common.{◌≡◌, ℕ, ℤ, pos, ◌-ℤ◌, Bool, ◌&&◌, true, false, not, if◌then◌else◌, Some, None, sym, ◌∙◌, ap, subst, refl, arith, int_le}
+use Rattle.std.proofs.lemmas.Bool.{or_right}
+use Rattle.std.proofs.lemmas.Int.{ints}
+use Rattle.ics_event.specs.declared.event.Event.{Event}
+use Rattle.ics_event.specs.Event.{stamp_seconds}
+use Rattle.ics_fields.specs.Locals.{local_seconds, year_number}
+use Rattle.ics_values.specs.declared.stamp.Stamp.{Stamp}
+use Rattle.ics_values.specs.declared.stamp.Stamp.TheVariants.{Date, Floating, Utc, Zoned}
+use Rattle.ics_starts.specs.declared.rule_starts.RuleStarts.{RuleStarts}
+use Rattle.ics_starts.specs.declared.series.Series.{Series}
+use Rattle.ics_listing.specs.declared.start.Start.{Start}
+use Rattle.ics_starts.specs.Clocks.{clock_at, clock_by, clock_of, instant}
+use Rattle.ics_listing.specs.FileClocks.{Clock, Clocks}
+use Rattle.ics_listing.specs.Entry.{Entry}
+use Rattle.ics_starts.specs.Exclusions.{is_among, is_day_in, is_excluded}
+use Rattle.ics_starts.specs.FileZones.{clocks_in}
+use Rattle.ics_starts.specs.Meeting.{entry_from}
+use Rattle.ics_listing.specs.WindowMeeting.{is_met}
+use Rattle.ics_starts.specs.RuleFeed.{IsDayShown}
+use Rattle.ics_starts.specs.RuleStarts.{gives, local_numbered, moment_numbered}
+use Rattle.ics_starts.specs.SeriesStarts.{wanted_by}
+use Rattle.ics_listing.specs.StartTimes.{stamp_at, time_of}
+use Rattle.ics_starts.proofs.PassedLemmas.{own-of, IsTest}
+use Rattle.ics_starts.proofs.RuleDayLemmas.{given-parts, seconds-numbered}
+
+-- a local of a date-time is read at its seconds
+moment-read : (clocks : Clocks) (event : Event) → ((day : ℤ) → event.start.stamp ≡ Date day → ⊥) → (n : ℕ)
+    → moment_numbered clocks event n ≡ (clock_of clocks event.start).moment (pos n -ℤ pos (year_number 1_970))
+moment-read clocks event apart n = by event.start.stamp apart
+  where
+    seconds : local_seconds (local_numbered n) ≡ pos n -ℤ pos (year_number 1_970)
+    seconds = omega (arith, ints, seconds-numbered n)
+
+    by : (s : Stamp) → ((day : ℤ) → s ≡ Date day → ⊥)
+        → (clock_by clocks event.start.zone (stamp_at s (local_numbered n))).moment (stamp_seconds (stamp_at s (local_numbered n)))
+        ≡ (clock_by clocks event.start.zone s).moment (pos n -ℤ pos (year_number 1_970))
+    by (Date day) h = absurd (h day refl)
+    by (Floating local) h = ap clocks.display.moment seconds
+    by (Utc local) h = seconds
+    by (Zoned local) h = ap (clock_at clocks.zones event.start.zone).moment seconds
+
+-- A series of date-times.
+module _ (s : Series) (apart : (day : ℤ) → s.event.now.start.stamp ≡ Date day → ⊥) where
+  abbrev clocks : Clocks
+  clocks = clocks_in s.zones
+
+  abbrev event : Event
+  event = s.event.now
+
+  -- what is passed over is removed
+  removed : (a : RuleStarts) → s.rule_starts ≡ Some a → (n : ℕ) → IsDayShown s.exclusions.days.items a n → gives clocks event a.rule s.window n ≡ true
+      → is_excluded clocks event (moment_numbered clocks event n) ≡ true
+  removed a is n shown g =
+      let t = moment_numbered clocks event n in
+      let clock = clock_of clocks event.start in
+      let own = own-of s a is in
+      let early = (given-parts s.zones event a.rule s.window n g).2 in
+      let clocks-are : clock_of (clocks_in a.zones) a.event.now.start ≡ clock_of clocks event.start =
+      λ i. clock_of (clocks_in (own.zones_are i)) (own.event_is i).start in
+      let there = subst (λ (c : Clock). is_day_in c s.exclusions.days.items (c.moment (pos n -ℤ pos (year_number 1_970))) ≡ true) clocks-are shown in
+      let day : is_day_in (clock_of clocks event.start) s.exclusions.days.items (moment_numbered clocks event n) ≡ true =
+      ap (is_day_in clock s.exclusions.days.items) (moment-read clocks event apart n) ∙ there in
+      sym (s.taken_out t early) ∙ or_right (is_among s.exclusions.instants.items t) (is_day_in clock s.exclusions.days.items t) day
+
+  abbrev own-entry : Start → Entry
+  own-entry t = entry_from clocks event t.given
+
+  unwanted : (t : Start) → t.moment ≡ instant clocks (time_of t.given) → not (is_excluded clocks event t.moment) ≡ false
+      → wanted_by clocks s.window event s.since t ≡ None
+  unwanted t at e =
+      by (int_le s.since (own-entry t).start) (is_met s.window (own-entry t)) (not (is_excluded clocks event (own-entry t).start))
+      (ap (λ m. not (is_excluded clocks event m)) (sym at) ∙ e)
+    where
+      by : (x y z : Bool) → z ≡ false → (if x && (y && z) then Some (own-entry t) else None) ≡ None
+      by x y z e = grind arith
+
+  pub removed-test : IsTest s (IsDayShown s.exclusions.days.items) (λ t. not (is_excluded clocks event t))
+  removed-test = record { out = λ a is n shown g. ap not (removed a is n shown g); unwanted = λ t at from e. unwanted t at e }

@@ -1,0 +1,248 @@
+-- The starts at DTSTART and by RDATEs, and that those that are sought are among those that are found.
+use Rattle.std.proofs.Common.{◌≡◌, ℕ, suc, ◌+◌, ◌<◌, ℤ, ◌+ℤ◌, ◌-ℤ◌, ◌<ℤ◌, ◌≤ℤ◌, List, [], ◌∷◌, length, get_or, drop, add-one, Bool, true, false, Some}
+use Rattle.std.proofs.Common.{Option, pos}
+use Rattle.std.proofs.Common.{None, option_map, inl, inr, ⊎_elim, sym, ◌∙◌, ap, subst, arith, zero, ◌⊎◌, refl, drop-cons, slice_get, not, if◌then◌else◌}
+use Rattle.std.proofs.lemmas.Int.{int_max_is, int_min_is, ints}
+use Rattle.ics_event.specs.declared.event.Event.{Event}
+use Rattle.ics_event.specs.Event.{Rdate}
+use Rattle.ics_values.specs.declared.time.Rdate.TheVariants.{At, Span}
+use Rattle.ics_listing.specs.declared.start.StartSource.{StartSource}
+use Rattle.ics_listing.specs.declared.start.StartSource.TheVariants.{Kept, Listed}
+use Rattle.ics_listing.specs.declared.start.Start.{Start}
+use Rattle.ics_listing.specs.declared.window.Window.{Window}
+use Rattle.ics_starts.specs.declared.zones.FileZones.{FileZones}
+use Rattle.ics_listing.specs.FileClocks.{Clocks}
+use Rattle.ics_starts.specs.Clocks.{instant}
+use Rattle.ics_event.specs.Event.{stamp_seconds}
+use Rattle.ics_starts.specs.Finish.{end_by, seconds_by, seconds_lasting}
+use Rattle.ics_starts.specs.Found.{earlier, earliest, earliest_from, first_met, is_span_met, listed_from, start_at, start_by, IsSought, with_front}
+use Rattle.ics_starts.specs.Leeway.{late_by, seconds_late}
+use Rattle.ics_listing.specs.Listing.{IsIn}
+use Rattle.ics_starts.specs.Meeting.{entry_from}
+use Rattle.ics_starts.specs.MeetsWindow.{Meets}
+use Rattle.ics_starts.specs.Starts.{given_by, recurrence_by, GivesStart}
+use Rattle.ics_listing.specs.StartTimes.{local_of, stamp_at, time_at, time_of}
+use Rattle.ics_starts.specs.FileZones.{clocks_in, is_past}
+use Rattle.ics_starts.proofs.InstantLemmas.{end-bound, instant-near, meets-late, seconds-least}
+use Rattle.ics_starts.proofs.MeetsLemmas.{less-le, meets-is_met}
+use Rattle.ics_fields.specs.Locals.{whole_days}
+use Rattle.ics_fields.specs.declared.local.Local.{Local}
+use Rattle.ics_event.specs.Event.{Length}
+use Rattle.ics_values.specs.declared.time.Length.TheVariants.{Lasting, Open, Until}
+use Rattle.ics_values.specs.declared.stamp.Stamp.{Stamp}
+use Rattle.ics_values.specs.declared.stamp.Stamp.TheVariants.{Date, Floating, Utc, Zoned}
+use Rattle.ics_event.specs.Event.{Time}
+use Rattle.ics_listing.proofs.Cases.{some-same}
+
+-- a start of the list is by one of the RDATEs
+pub record IsListed (clocks : Clocks) (first : Time) (place : ℕ) (rdates : List Rdate) (s : Start) : Type 0 where
+  pub index : ℕ
+  pub rdate : Rdate
+  pub stands : slice_get rdates index ≡ Some rdate
+  pub is : s ≡ start_by clocks (Listed (place + index)) (given_by first rdate)
+
+module _ (clocks : Clocks) (w : Window) (first : Time) where
+  behind : (place : ℕ) (r : Rdate) (rdates : List Rdate) (s : Start) → IsListed clocks first (place + 1) rdates s → IsListed clocks first place (r ∷ rdates) s
+  behind place r rdates s k = record {
+    index = suc k.index;
+    rdate = k.rdate;
+    stands = k.stands;
+    is = k.is ∙ ap (λ n. start_by clocks (Listed n) (given_by first k.rdate)) (omega arith);
+  }
+
+  in-front : (b : Bool) (s x : Start) (xs : List Start) → IsIn s (with_front b x xs) → (s ≡ x) ⊎ IsIn s xs
+  in-front true s x xs m = m
+  in-front false s x xs m = inr m
+
+  pub listed-in : (place : ℕ) (rdates : List Rdate) (s : Start) → IsIn s (listed_from clocks w first place rdates) → IsListed clocks first place rdates s
+  listed-in place [] s m = absurd m
+  listed-in place (r ∷ rdates) s m =
+      ⊎_elim
+      (λ e. record { index = 0; rdate = r; stands = refl; is = e ∙ ap (λ n. start_by clocks (Listed n) (given_by first r)) (omega arith) })
+      (λ n. behind place r rdates s (listed-in (place + 1) rdates s n))
+      (in-front (not (is_past w (time_of (given_by first r)))) s (start_by clocks (Listed place) (given_by first r))
+      (listed_from clocks w first (place + 1) rdates) m)
+
+  rest-in : (b : Bool) (s x : Start) (xs : List Start) → IsIn s xs → IsIn s (with_front b x xs)
+  rest-in true s x xs m = inr m
+  rest-in false s x xs m = m
+
+  -- each of them that can begin before the window's end is there
+  pub in-listed : (place k : ℕ) (rdates : List Rdate) {r : Rdate} {at : ℕ} → at ≡ place + k → slice_get rdates k ≡ Some r →
+      is_past w (time_of (given_by first r)) ≡ false → IsIn (start_by clocks (Listed at) (given_by first r)) (listed_from clocks w first place rdates)
+  in-listed place k [] {r = r} a e p = let f : None ≡ Some r = e in absurd cc
+  in-listed place zero (q ∷ rdates) {r = r} {at = at} a e p =
+      let same : r ≡ q = some-same r q (sym e) in
+      let here : at ≡ place = omega (arith, a) in
+      let wanted : not (is_past w (time_of (given_by first q))) ≡ true = ap (λ x. not (is_past w (time_of (given_by first x)))) (sym same) ∙ ap not p in
+      rw wanted (inl (λ i. start_by clocks (Listed (here i)) (given_by first (same i))))
+  in-listed place (suc k) (q ∷ rdates) {r = r} {at = at} a e p =
+      rest-in (not (is_past w (time_of (given_by first q)))) (start_by clocks (Listed at) (given_by first r))
+      (start_by clocks (Listed place) (given_by first q)) (listed_from clocks w first (place + 1) rdates)
+      (in-listed (place + 1) k rdates (omega (arith, a)) e p)
+
+-- From where on the rule is asked.
+earlier-is : (b : Bool) (least t : ℤ) → (earlier b least t ≤ℤ least) × (b ≡ true → earlier b least t ≤ℤ t)
+earlier-is true least t = (omega (arith, ints, int_min_is least t), λ e. omega (arith, ints, int_min_is least t))
+earlier-is false least t = (omega (arith, ints), λ e. let f : false ≡ true = e in absurd cc)
+
+module _ (clocks : Clocks) (w : Window) (event : Event) where
+  earliest-most : (least : ℤ) (xs : List Start) → earliest_from clocks w event least xs ≤ℤ least
+  earliest-most least [] = omega (arith, ints)
+  earliest-most least (x ∷ xs) =
+      let rest = earliest-most (earlier (is_span_met clocks w event x x.given) least x.moment) xs in
+      omega (arith, ints, rest, (earlier-is (is_span_met clocks w event x x.given) least x.moment).0)
+
+  earliest-each : (least : ℤ) (s : Start) (xs : List Start) → IsIn s xs → is_span_met clocks w event s s.given ≡ true →
+      earliest_from clocks w event least xs ≤ℤ s.moment
+  earliest-each least s [] m e = absurd m
+  earliest-each least s (x ∷ xs) m e =
+      ⊎_elim
+      (λ is.
+      let rest = earliest-most (earlier (is_span_met clocks w event x x.given) least x.moment) xs in
+      let one = (earlier-is (is_span_met clocks w event x x.given) least x.moment).1 (ap (λ y. is_span_met clocks w event y y.given) (sym is) ∙ e) in
+      let same = ap (λ y. y.moment) is in
+      omega (arith, ints, rest, one, same))
+      (λ n. earliest-each (earlier (is_span_met clocks w event x x.given) least x.moment) s xs n e) m
+
+  -- one start further on
+  pub earliest-step : (least : ℤ) {next : ℤ} (xs : List Start) (k : ℕ) {s : Start} → k < length xs → s ≡ get_or xs k s →
+      next ≡ earlier (is_span_met clocks w event s s.given) least s.moment
+      → earliest_from clocks w event next (drop (k + 1) xs) ≡ earliest_from clocks w event least (drop k xs)
+  earliest-step least xs k {s = s} l e n =
+      let front : drop k xs ≡ s ∷ drop (suc k) xs = drop-cons xs k s l ∙ ap (λ x. x ∷ drop (suc k) xs) (sym e) in
+      ap (λ t. earliest_from clocks w event t (drop (k + 1) xs)) n
+      ∙ (ap (λ i. earliest_from clocks w event (earlier (is_span_met clocks w event s s.given) least s.moment) (drop i xs)) (add-one k)
+      ∙ sym (ap (earliest_from clocks w event least) front))
+
+-- the starts at DTSTART and by RDATEs
+abbrev pub front : Clocks → Window → Event → List Start
+front clocks w event = start_at clocks event (local_of event.start.stamp) ∷ listed_from clocks w event.start 0 event.rdates
+
+module _ (zones : FileZones) (w : Window) (event : Event) where
+  pub listed-there : (place : ℕ) (given : Rdate) → GivesStart (clocks_in zones) event (Listed place) given → instant (clocks_in zones) (time_of given) <ℤ w.to →
+      IsIn (start_by (clocks_in zones) (Listed place) given) (front (clocks_in zones) w event)
+  listed-there place given g early =
+      let time = time_of (given_by event.start g.0) in
+      let same = ap (λ x. instant (clocks_in zones) (time_of x)) g.2 in
+      let past : is_past w time ≡ false =
+      less-le (w.to +ℤ whole_days 2) (stamp_seconds time.stamp) (omega (arith, ints, same, early, instant-near zones time)) in
+      inr (subst (λ v. IsIn (start_by (clocks_in zones) (Listed place) v) (listed_from (clocks_in zones) w event.start 0 event.rdates)) (sym g.2)
+      (in-listed (clocks_in zones) w event.start 0 place event.rdates (omega arith) g.1 past))
+
+  pub sought-early : (t : ℤ) → IsSought (clocks_in zones) event w t → t <ℤ w.to
+  sought-early t s = omega (arith, ints, s.starts, s.meets.begun)
+
+  met-late : (time : Time) → Meets w (entry_from (clocks_in zones) event (At time)) → (b : Bool) → w.notstarted ≡ b →
+      ((if b then w.from else w.from -ℤ seconds_lasting (clocks_in zones) event) -ℤ whole_days 4) ≤ℤ instant (clocks_in zones) time
+  met-late time m true e = omega (arith, ints, m.started e)
+  met-late time m false e = meets-late zones event w time m
+
+  -- what is sought begins at most four days before what counts first
+  pub sought-late : (t : ℤ) → IsSought (clocks_in zones) event w t → (earliest (clocks_in zones) w event (front (clocks_in zones) w event) -ℤ whole_days 4) ≤ℤ t
+  sought-late t s = by s.source s.given s.gives s.starts s.meets
+    where
+      by : (source : StartSource) (given : Rdate) → GivesStart (clocks_in zones) event source given → instant (clocks_in zones) (time_of given) ≡ t →
+          Meets w (entry_from (clocks_in zones) event given)
+          → (earliest (clocks_in zones) w event (front (clocks_in zones) w event) -ℤ whole_days 4) ≤ℤ t
+      by source (At time) g e m =
+          let most = earliest-most (clocks_in zones) w event (first_met (clocks_in zones) w event) (front (clocks_in zones) w event) in
+          omega (arith, ints, e, met-late time m w.notstarted refl, most)
+      by (Kept local) (Span start lasts) g e m = let f : Span start lasts ≡ At (time_at event.start local) = g.1 in absurd cc
+      by (Listed place) (Span start lasts) g e m =
+          let there = listed-there place (Span start lasts) g m.begun in
+          let met = meets-is_met w (entry_from (clocks_in zones) event (Span start lasts)) m in
+          let each = earliest-each (clocks_in zones) w event (first_met (clocks_in zones) w event)
+          (start_by (clocks_in zones) (Listed place) (Span start lasts)) (front (clocks_in zones) w event) there met in
+          omega (arith, ints, e, each)
+
+  -- The end is no more seconds past what the event's length says than it may be late.
+  late-bound : (first : Time) (index : Option ℕ) (s : Stamp) (local : Local) (length : Length)
+      → let given : Time = record { stamp = stamp_at s local; zone = index } in end_by (clocks_in zones) first given s length
+      ≤ℤ ((instant (clocks_in zones) given +ℤ seconds_by (clocks_in zones) first s length) +ℤ late_by [] s length)
+  late-bound first index (Date day) local length =
+      omega (arith, ints, end-bound zones first (record { stamp = stamp_at (Date day) local; zone = index }) (Date day) length)
+  late-bound first index (Utc a) local (Lasting duration) = omega (arith, ints)
+  late-bound first index (Floating a) local (Lasting duration) =
+      omega (arith, ints, end-bound zones first (record { stamp = Floating local; zone = index }) (Floating a) (Lasting duration))
+  late-bound first index (Zoned a) local (Lasting duration) =
+      omega (arith, ints, end-bound zones first (record { stamp = Zoned local; zone = index }) (Zoned a) (Lasting duration))
+  late-bound first index (Utc a) local Open = omega (arith, ints)
+  late-bound first index (Floating a) local Open = omega (arith, ints)
+  late-bound first index (Zoned a) local Open = omega (arith, ints)
+  late-bound first index (Utc a) local (Until end) = omega (arith, ints, int_max_is (pos 0) (instant (clocks_in zones) end -ℤ instant (clocks_in zones) first))
+  late-bound first index (Floating a) local (Until end) =
+      omega (arith, ints, int_max_is (pos 0) (instant (clocks_in zones) end -ℤ instant (clocks_in zones) first))
+  late-bound first index (Zoned a) local (Until end) =
+      omega (arith, ints, int_max_is (pos 0) (instant (clocks_in zones) end -ℤ instant (clocks_in zones) first))
+
+  late-least : (s : Stamp) (length : Length) → pos 0 ≤ℤ late_by [] s length
+  late-least (Date day) length = omega (arith, ints)
+  late-least (Utc local) length = omega (arith, ints)
+  late-least (Floating local) Open = omega (arith, ints)
+  late-least (Floating local) (Until end) = omega (arith, ints)
+  late-least (Floating local) (Lasting duration) = omega (arith, ints)
+  late-least (Zoned local) Open = omega (arith, ints)
+  late-least (Zoned local) (Until end) = omega (arith, ints)
+  late-least (Zoned local) (Lasting duration) = omega (arith, ints)
+
+  -- what meets the window from a local begins no more before an event of this length can
+  pub met-from : (local : Local) → Meets w (entry_from (clocks_in zones) event (At (time_at event.start local))) → (b : Bool) → w.notstarted ≡ b →
+      ((if b then w.from else w.from -ℤ seconds_lasting (clocks_in zones) event) -ℤ late_by [] event.start.stamp event.length)
+      ≤ℤ instant (clocks_in zones) (time_at event.start local)
+  met-from local m true e = omega (arith, ints, m.started e, late-least event.start.stamp event.length)
+  met-from local m false e =
+      let end = late-bound event.start event.start.zone event.start.stamp local event.length in
+      let least = seconds-least zones event.start event.start.stamp event.length in
+      let late = late-least event.start.stamp event.length in
+      ⊎_elim (λ l. omega (arith, ints, end, least, late, l, int_max_is)) (λ r. omega (arith, ints, r.1, least, late)) m.lasting
+
+  -- nor does what is sought
+  sought-by : (rdates : List Rdate) → event.rdates ≡ rdates → (t : ℤ) → IsSought (clocks_in zones) event w t →
+      (earliest (clocks_in zones) w event (front (clocks_in zones) w event) -ℤ late_by rdates event.start.stamp event.length) ≤ℤ t
+  sought-by (rdate ∷ rdates) e t s = sought-late t s
+  sought-by [] e t s = by s.source s.given s.gives s.starts s.meets
+    where
+      by : (source : StartSource) (given : Rdate) → GivesStart (clocks_in zones) event source given → instant (clocks_in zones) (time_of given) ≡ t →
+          Meets w (entry_from (clocks_in zones) event given)
+          → (earliest (clocks_in zones) w event (front (clocks_in zones) w event) -ℤ late_by [] event.start.stamp event.length) ≤ℤ t
+      by (Kept local) given g same m =
+          let most = earliest-most (clocks_in zones) w event (first_met (clocks_in zones) w event) (front (clocks_in zones) w event) in
+          let met = subst (λ v. Meets w (entry_from (clocks_in zones) event v)) g.1 m in
+          let there = ap (λ v. instant (clocks_in zones) (time_of v)) g.1 in
+          omega (arith, ints, most, met-from local met w.notstarted refl, there, same)
+      by (Listed place) given g same m = let f : None ≡ Some g.0 = ap (λ rs. slice_get rs place) (sym e) ∙ g.1 in absurd cc
+
+  late-range : (rdates : List Rdate) → pos 0 ≤ℤ late_by rdates event.start.stamp event.length
+  late-range [] = late-least event.start.stamp event.length
+  late-range (rdate ∷ rdates) = omega (arith, ints)
+
+  -- what counts first is no later than the window's end
+  pub earliest-soon : (starts : List Start) → earliest (clocks_in zones) w event starts ≤ℤ w.to
+  earliest-soon starts =
+      let most = earliest-most (clocks_in zones) w event (first_met (clocks_in zones) w event) starts in
+      let first = first-soon w.notstarted in
+      omega (arith, ints, most, first, w.ordered)
+    where
+      first-soon : (b : Bool) → (if b then w.from else w.from -ℤ seconds_lasting (clocks_in zones) event) ≤ℤ w.from
+      first-soon true = omega (arith, ints)
+      first-soon false = omega (arith, ints, seconds-least zones event.start event.start.stamp event.length)
+
+  -- so what is sought begins no more before what counts first than an occurrence can end late
+  pub sought-from : (t : ℤ) → IsSought (clocks_in zones) event w t
+      → (earliest (clocks_in zones) w event (front (clocks_in zones) w event) -ℤ seconds_late event) ≤ℤ t
+  sought-from t s = sought-by event.rdates refl t s
+
+  pub late-event : pos 0 ≤ℤ seconds_late event
+  late-event = late-range event.rdates
+
+  -- an event without a rule has no other starts
+  pub none-else : event.rule ≡ None → (source : StartSource) (given : Rdate) → GivesStart (clocks_in zones) event source given
+      → IsSought (clocks_in zones) event w (instant (clocks_in zones) (time_of given)) →
+      IsIn (start_by (clocks_in zones) source given) (front (clocks_in zones) w event)
+  none-else none (Kept local) given g s =
+      ⊎_elim
+      (λ e. inl (ap (start_by (clocks_in zones) (Kept local)) g.1 ∙ ap (start_at (clocks_in zones) event) e))
+      (λ r. let f : None ≡ Some r.rule = ap (option_map (recurrence_by event.start.stamp)) (sym none) ∙ r.has in absurd cc)
+      g.0
+  none-else none (Listed place) given g s = listed-there place given g (sought-early (instant (clocks_in zones) (time_of given)) s)

@@ -1,0 +1,122 @@
+use Rattle.std.proofs.Common.{◌≡◌, ◌<ℤ◌, ◌+ℤ◌, ◌-ℤ◌, ◌∙◌, pos, refl, sym, ap, subst, arith, map, to_z, of_z, w32, ℤ, Option}
+use Rattle.std.specs.Int.{int_min}
+use Rattle.std.proofs.lemmas.Int.{int_min_is, ints}
+use Rattle.ics_fields.specs.declared.local.Local.{Local}
+use Rattle.ics_rule.specs.Cursors.{place_of}
+use Rattle.ics_event.specs.declared.event.Event.{Event}
+use Rattle.ics_fields.specs.Locals.{local_seconds, midnight, number, whole_days}
+use Rattle.ics_starts.specs.Clocks.{clock_of, IsBounded}
+use Rattle.ics_listing.specs.StartOrder.{moment_cmp}
+use Rattle.ics_starts.specs.Leeway.{seconds_off}
+use Rattle.ics_listing.specs.Listing.{IsIn}
+use Rattle.ics_listing.specs.declared.window.Window.{Window}
+use Rattle.ics_listing.specs.Rising.{Rises}
+use Rattle.ics_starts.proofs.RuleDayLemmas.{come-empty}
+use Rattle.ics_starts.specs.RuleStarts.{ends_at, HasLookedTo}
+use Rattle.ics_listing.specs.Waiting.{start_of, starts_in}
+use Rattle.ics_listing.specs.StartTimes.{local_of}
+use Rattle.ics_listing.proofs.StartOrderLemmas.{calendar-day, own-day}
+use Rattle.ics_starts.proofs.StartSourceLemmas.{rule-first}
+use Rattle.ics_starts.proofs.SettledLemmas.{off-range}
+use Rattle.ics_starts.specs.FileZones.{clocks_in, IsTimeOf}
+use Rattle.ics_starts.specs.Quiet.{AreBeyond}
+use Rattle.ics_starts.proofs.QuietLemmas.{beyond-begun}
+use Rattle.ics_starts.proofs.RuleStepLemmas.{day-back, ends-most, most-back, signed-back}
+use Rattle.ics_starts.proofs.rule_starts.RuleStarts.new.Goals as goal
+
+-- where the rule ends is told by the event as it is seen
+ends-same : (w : Window) {o p : Option ℤ} {u v : Event} → o ≡ p → u ≡ v →
+    ends_at w o (local_seconds (local_of u.start.stamp)) ≡ ends_at w p (local_seconds (local_of v.start.stamp))
+ends-same w e f = λ i. ends_at w (e i) (local_seconds (local_of (f i).start.stamp))
+
+first-same : (w : Window) {o p : Option ℤ} {u v : Event} → o ≡ p → u ≡ v →
+    int_min (local_seconds (local_of u.start.stamp)) (ends_at w o (local_seconds (local_of u.start.stamp)) -ℤ pos 1)
+    ≡ int_min (local_seconds (local_of v.start.stamp)) (ends_at w p (local_seconds (local_of v.start.stamp)) -ℤ pos 1)
+first-same w e f = λ i. int_min (local_seconds (local_of (f i).start.stamp)) (ends_at w (e i) (local_seconds (local_of (f i).start.stamp)) -ℤ pos 1)
+
+end-of-window : (w : Window) (o : Option ℤ) (end : ℤ) {u v : Event} → u ≡ v →
+    midnight end <ℤ (ends_at w o (local_seconds (local_of u.start.stamp)) +ℤ (seconds_off u.start.stamp +ℤ whole_days 1))
+    → midnight end <ℤ (w.to +ℤ whole_days 3)
+end-of-window w o end {u = u} f l = omega (arith, ints, l, ends-most w o (local_seconds (local_of u.start.stamp)), off-range u.start.stamp)
+
+pub bounds-bounds-requires : goal.bounds-bounds-requires
+bounds-bounds-requires c = subst (λ (v : Event). IsTimeOf c.args.zones.zones.now v.start) (sym c.event.view_is) c.requires.event.start
+
+pub end_nearby-end-requires-clause-day : goal.end_nearby-end-requires-clause-day
+end_nearby-end-requires-clause-day c =
+    rw (ap (λ (v : Event). local_of v.start.stamp) c.event.view_is)
+    (calendar-day (local_of c.args.event.now.start.stamp).day (own-day c.args.event.now.start c.requires.event.start.is_time))
+
+pub end_nearby-end-requires-clause-short : goal.end_nearby-end-requires-clause-short
+end_nearby-end-requires-clause-short c =
+    let short = c.bounds-bounds.ensures.bounded.most_short in
+    (omega (arith, ints, short), omega (arith, ints, short))
+
+pub end_nearby-end-requires-clause-most : goal.end_nearby-end-requires-clause-most
+end_nearby-end-requires-clause-most c =
+    let b = c.bounds-bounds in
+    let back = most-back b.result.most b.ensures.bounded.most_short in
+    let off = ap (λ (v : Event). seconds_off v.start.stamp) c.event.view_is in
+    omega (arith, ints, back, b.ensures.most, off)
+
+pub begun-begun-requires-clause-early : goal.begun-begun-requires-clause-early
+begun-begun-requires-clause-early c =
+    let w = c.args.window in
+    let e = c.end_nearby-end.ensures in
+    let soon = end-of-window w c.until_moment.result c.end_nearby-end.result c.event.view_is e.soon in
+    omega (arith, ints, w.not_late, soon, e.day.0)
+
+pub invariant_of-result : goal.invariant_of-result
+invariant_of-result c =
+    let w = c.args.window in
+    let e = c.end_nearby-end.ensures in
+    let ends = ends-same w c.until_moment.ensures c.event.view_is in
+    let off = ap (λ (v : Event). seconds_off v.start.stamp) c.event.view_is in
+    let most = end-of-window w c.until_moment.result c.end_nearby-end.result c.event.view_is e.soon in
+    let firsts = first-same w c.until_moment.ensures c.event.view_is in
+    let min = c.min-day.ensures.value in
+    let place = c.begun-begun.ensures.begun.place in
+    let begun = c.requires.from in
+    let end = day-back c.end_nearby-end.result e.day in
+    let from = day-back c.args.from.day c.requires.from in
+    let day = signed-back c.min-day.result c.min-day.result c.min-day.type_inv refl in
+    let back = most-back c.bounds-bounds.result.most c.bounds-bounds.ensures.bounded.most_short in
+    let asked = day ∙ (min ∙ ap (λ f. int_min f (to_z w32 (of_z w32 c.end_nearby-end.result))) from) in
+    let at = ap (λ (l : Local). local_seconds l) c.at.ensures in
+    let next : c.seconds-next.result ≡ midnight (to_z w32 (of_z w32 c.min-day.result)) = omega (arith, ints, c.seconds-next.ensures, at) in
+    record {
+      rule_of = record {
+        of = c.requires.rule;
+        time = c.requires.event.start;
+        first = ap (λ (l : Local). number l) (rule-first c.args.event.now c.args.rule c.requires.rule);
+        bounded = subst (λ (v : Event). IsBounded (clock_of (clocks_in c.args.zones) v.start) c.bounds-bounds.result) c.event.view_is
+            c.bounds-bounds.ensures.bounded;
+        after = omega (arith, ints, end, e.after, ends, back);
+        first_before = omega (arith, ints, end, firsts, e.first);
+        soon = omega (arith, ints, end, e.soon, ends, off);
+      };
+      rises = subst (Rises moment_cmp) (sym (ap (map (start_of c.args.event.now.start)) c.new.ensures)) tt;
+      are = λ s m. absurd (subst (IsIn s) (ap (map (start_of c.args.event.now.start)) c.new.ensures) m);
+      past_end = subst (λ place. AreBeyond (clocks_in c.args.zones) c.args.event.now c.args.rule w (number c.args.from) place _)
+          (sym c.begun-begun.ensures.begun.place) (beyond-begun (clocks_in c.args.zones) c.args.event.now c.args.rule w (number c.args.from) _);
+      own = c.begun-begun.ensures.begun.own;
+      looked = subst (λ d. HasLookedTo c.args.rule c.args.from d c.begun-begun.result) (sym asked) c.begun-begun.ensures.looked;
+      reached = record {
+        read = omega (arith, ints, place, day, end, from, min, int_min_is, begun.0, begun.1, e.day.0, e.day.1);
+        next_read = omega (arith, ints, place, day, end, from, min, int_min_is, begun.0, begun.1, e.day.0, e.day.1, next);
+        next_on = omega (arith, ints, next);
+        low = omega (arith, ints, day, end, from, min, int_min_is, c.requires.from.0, e.day.0);
+        on = omega (arith, ints, day);
+        soon = omega (arith, ints, day);
+        by_end = omega (arith, ints, day, end, from, min, int_min_is);
+      };
+      early = omega (arith, ints, end, w.not_late, most, e.day.0);
+    }
+
+pub returns-clause-begun : goal.returns-clause-begun
+returns-clause-begun c = c.begun-begun.ensures.begun
+
+pub returns-clause-left : goal.returns-clause-left
+returns-clause-left c =
+    come-empty c.args.zones c.args.event.now c.args.rule c.args.window (starts_in c.args.event.now.start c.new.result) (place_of c.begun-begun.result)
+    (number c.args.from) (ap (map (start_of c.args.event.now.start)) c.new.ensures) c.begun-begun.ensures.begun.place

@@ -1,0 +1,91 @@
+use Rattle.std.proofs.Common.{◌≡◌, refl, sym, subst, arith, rules, w64, SFits}
+use Rattle.std.proofs.lemmas.Int.{ints}
+use Rattle.ics_listing.specs.StartOrder.{moment_cmp}
+use Rattle.ics_listing.specs.Rising.{Rises}
+use Rattle.ics_starts.specs.RuleStarts.{AreHeld}
+use Rattle.ics_starts.specs.FileZones.{clocks_in}
+use Rattle.ics_starts.specs.RuleFeed.{held_in}
+use Rattle.ics_listing.specs.Waiting.{starts_in}
+use Rattle.ics_starts.proofs.QuietLemmas.{beyond-none, beyond-one}
+use Rattle.ics_starts.proofs.RuleStepLemmas.{bound-days, bound-early, none-read, one-read, one-time}
+use Rattle.ics_starts.proofs.rule_starts.RuleStarts.read_on.Goals as goal
+
+pub invariant_of-self-in-Break-1 : goal.invariant_of-self-in-Break-1
+invariant_of-self-in-Break-1 c =
+    let s = c.args.self.now in
+    let same : starts_in c.args.self.now.event.now.start c.hold.new.held ≡ held_in c.args.self.now = search rules in
+    record {
+      rule_of = s.rule_of;
+      rises = subst (Rises moment_cmp) (sym same) s.rises;
+      are = subst (AreHeld (clocks_in s.zones) s.event.now s.rule s.window s.asked) (sym same) s.are;
+      past_end = s.past_end;
+      own = s.own;
+      looked = s.looked;
+      reached = s.reached;
+      early = s.early;
+    }
+
+pub next-requires-clause-bound : goal.next-requires-clause-bound
+next-requires-clause-bound c =
+    let b = c.bound-bound in
+    bound-days c.args.self.now b.type_inv b.ensures.later b.ensures.within c.at-to.ensures
+
+pub next-requires-clause-early : goal.next-requires-clause-early
+next-requires-clause-early c =
+    let b = c.bound-bound in
+    bound-early c.args.self.now b.type_inv b.ensures.later b.ensures.within c.at-to.ensures
+
+pub invariant_of-self : goal.invariant_of-self
+invariant_of-self c =
+    let s = c.args.self.now in
+    let b = c.bound-bound in
+    let r = none-read s b.type_inv b.ensures.later b.ensures.within c.at-to.ensures b.ensures.held c.in-None.ensures.next c.seconds-midnight.ensures in
+    record {
+      rule_of = s.rule_of;
+      rises = r.rises;
+      are = r.are;
+      past_end = beyond-none s c.in-None.ensures.next;
+      own = c.in-None.ensures.own;
+      looked = λ before m. c.in-None.ensures.looked _ before (omega (arith, r.before, m)) (s.looked before (omega (arith, r.before, m)));
+      reached = r.reached;
+      early = s.early;
+    }
+
+pub hold-requires-clause-time : goal.hold-requires-clause-time
+hold-requires-clause-time c =
+    let b = c.bound-bound in
+    one-time c.args.self.now b.type_inv b.ensures.later b.ensures.within c.at-to.ensures c.in-Some.local c.in-Some.ensures.day c.in-Some.ensures.next
+
+pub invariant_of-self-in-Some : goal.invariant_of-self-in-Some
+invariant_of-self-in-Some c =
+    let s = c.args.self.now in
+    let b = c.bound-bound in
+    let r = one-read s b.type_inv b.ensures.later b.ensures.within c.at-to.ensures c.in-Some.local c.in-Some.ensures.day
+    c.in-Some.ensures.next b.ensures.held c.in_ok-moment-in-Some.ensures.held c.seconds-seconds.ensures in
+    let moment = c.in_ok-moment-in-Some.ensures.moment in
+    let fits : SFits w64 c.lesser_past-self.result = search rules in
+    record {
+      rule_of = s.rule_of;
+      rises = r.rises;
+      are = r.are;
+      past_end = beyond-one s c.in-Some.local c.in-Some.ensures.next c.in-Some.ensures.day (omega (arith, ints, c.lesser_past-self.ensures.first))
+          (λ past. let late = c.lesser_past-self.ensures.second (omega (arith, ints, past, moment)) in omega (arith, ints, late, moment));
+      own = c.in-Some.ensures.own;
+      looked = λ before m. c.in-Some.ensures.looked _ before (omega (arith, r.before, m)) (s.looked before (omega (arith, r.before, m)));
+      reached = r.reached;
+      early = s.early;
+    }
+
+pub returns-in-None : goal.returns-in-None
+returns-in-None c =
+    let b = c.bound-bound in
+    let r = none-read c.args.self.now b.type_inv b.ensures.later b.ensures.within c.at-to.ensures b.ensures.held c.in-None.ensures.next
+    c.seconds-midnight.ensures in
+    record { same = r.same; source = record { zones = refl; event = refl; window = refl; rule = refl; from = refl; end = refl }; less = r.less }
+
+pub returns-in_ok-moment-in-Some : goal.returns-in_ok-moment-in-Some
+returns-in_ok-moment-in-Some c =
+    let b = c.bound-bound in
+    let r = one-read c.args.self.now b.type_inv b.ensures.later b.ensures.within c.at-to.ensures c.in-Some.local c.in-Some.ensures.day
+    c.in-Some.ensures.next b.ensures.held c.in_ok-moment-in-Some.ensures.held c.seconds-seconds.ensures in
+    record { same = r.same; source = record { zones = refl; event = refl; window = refl; rule = refl; from = refl; end = refl }; less = r.less }

@@ -1,0 +1,41 @@
+use Rattle.std.proofs.Common.{◌≡◌, ◌∙◌, refl, sym, ap, subst, ℤ}
+use Rattle.ics_event.specs.declared.event.Event.{Event}
+use Rattle.ics_values.specs.declared.stamp.Stamp.TheVariants.{Date}
+use Rattle.ics_listing.specs.Entry.{entry_cmp}
+use Rattle.ics_starts.specs.FileZones.{clocks_in}
+use Rattle.ics_listing.specs.Rising.{Rises}
+use Rattle.ics_starts.specs.SeriesStarts.{first_of}
+use Rattle.ics_starts.proofs.PassedLemmas.{passed}
+use Rattle.ics_starts.proofs.RemovedLemmas.{removed-test}
+use Rattle.ics_starts.proofs.SeriesLemmas.{own-rule-same}
+use Rattle.ics_starts.proofs.series.Series.skip_removed.Goals as goal
+
+-- the event as it is seen has no date
+no-date : {u v : Event} → u ≡ v → ((day : ℤ) → u.start.stamp ≡ Date day → ⊥) → (day : ℤ) → v.start.stamp ≡ Date day → ⊥
+no-date is none day e = none day (ap (λ (v : Event). v.start.stamp) is ∙ e)
+
+pub invariant_of-self : goal.invariant_of-self
+invariant_of-self c =
+    let s = c.args.self.now in
+    let k = passed s (removed-test s (no-date c.event.view_is c.in_default.not-Date)) c.skip_rule.new.rule c.skip_rule.ensures in
+    record {
+      first_is = s.first_is;
+      own = s.own;
+      taken_out = s.taken_out;
+      known = k.known;
+      listed_known = s.listed_known;
+      ruled = k.ruled;
+      own_rule = own-rule-same s.zones s.event.now s.window (first_of (clocks_in s.zones) s.window s.event.now s.since) s.rule_starts
+          c.skip_rule.new.rule k.same s.own_rule;
+      rising = subst (Rises entry_cmp) (sym k.coming) s.rising;
+    }
+
+pub returns-in_default : goal.returns-in_default
+returns-in_default c =
+    let s = c.args.self.now in
+    let k = passed s (removed-test s (no-date c.event.view_is c.in_default.not-Date)) c.skip_rule.new.rule c.skip_rule.ensures in
+    record {
+      coming = k.coming;
+      fewer = k.fewer;
+      same = record { zones = refl; event = refl; window = refl; since = refl; rule = k.same };
+    }

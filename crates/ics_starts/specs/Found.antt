@@ -1,0 +1,103 @@
+-- The starts by which an event can meet a window, as they are found.
+use Rattle.std.specs.Prelude.{◌≡◌, ◌≤ℤ◌, ◌-ℤ◌, ℕ, ◌+◌, ℤ, Bool, true, false, not, List, [], ◌∷◌, length, Option, Some, None, if◌then◌else◌}
+use Rattle.std.specs.Int.{int_min}
+use Rattle.ics_fields.specs.declared.local.Local.{Local}
+use Rattle.ics_event.specs.Event.{IsRdate, RdateBelow}
+use Rattle.ics_event.specs.declared.event.Event.{Event}
+use Rattle.ics_event.specs.Event.{Rdate}
+use Rattle.ics_values.specs.declared.time.Rdate.TheVariants.{At, Span}
+use Rattle.ics_event.specs.Event.{Time}
+use Rattle.ics_listing.specs.declared.start.StartSource.{StartSource}
+use Rattle.ics_listing.specs.declared.start.StartSource.TheVariants.{Kept, Listed}
+use Rattle.ics_listing.specs.declared.start.Start.{Start}
+use Rattle.ics_listing.specs.declared.window.Window.{Window}
+use Rattle.ics_starts.specs.declared.zones.FileZones.{FileZones}
+use Rattle.ics_listing.specs.FileClocks.{Clocks}
+use Rattle.ics_starts.specs.Clocks.{instant}
+use Rattle.ics_listing.specs.Entry.{Entry}
+use Rattle.ics_starts.specs.Finish.{seconds_lasting}
+use Rattle.ics_listing.specs.Listing.{IsIn}
+use Rattle.ics_listing.specs.Rising.{Rises}
+use Rattle.ics_listing.specs.WindowMeeting.{is_met}
+use Rattle.ics_starts.specs.Meeting.{entry_from}
+use Rattle.ics_starts.specs.MeetsWindow.{Meets}
+use Rattle.ics_starts.specs.Starts.{given_by, GivesStart}
+use Rattle.ics_listing.specs.StartTimes.{time_at, time_of}
+use Rattle.ics_starts.specs.FileZones.{clocks_in, is_past}
+use Rattle.ics_listing.specs.StartOrder.{HasStart, moment_cmp}
+
+-- the start that a source gives by a value
+abbrev pub start_by : Clocks → StartSource → Rdate → Start
+start_by clocks source given = record { moment = instant clocks (time_of given); source = source; given = given }
+
+-- the start at the local of DTSTART, or at one that the rule keeps
+abbrev pub start_at : Clocks → Event → Local → Start
+start_at clocks event local = start_by clocks (Kept local) (At (time_at event.start local))
+
+-- a start of the event: its instant, and what gives it
+pub record IsStart (clocks : Clocks) (event : Event) (s : Start) : Type 0 where
+  pub gives : GivesStart clocks event s.source s.given
+  pub moment : s.moment ≡ instant clocks (time_of s.given)
+
+-- a start at the instant of its value, whose times are those of a file with these zones
+pub record IsStartIn (zones : FileZones) (s : Start) : Type 0 where
+  pub value : IsRdate s.given
+  pub below : RdateBelow (length zones.zones.now) s.given
+  pub moment : s.moment ≡ instant (clocks_in zones) (time_of s.given)
+
+-- An occurrence from this instant meets the window, by the length of one of the sources of this start, whether it is the first or not.
+pub record IsSought (clocks : Clocks) (event : Event) (w : Window) (t : ℤ) : Type 0 where
+  pub source : StartSource
+  pub given : Rdate
+  pub gives : GivesStart clocks event source given
+  pub starts : instant clocks (time_of given) ≡ t
+  pub meets : Meets w (entry_from clocks event given)
+
+-- the same, but only starts that can meet the window and are not before `since` need to be there
+pub record AreStartsSince (clocks : Clocks) (event : Event) (w : Window) (since : ℤ) (starts : List Start) : Type 0 where
+  pub rises : Rises moment_cmp starts
+  pub are : (s : Start) → IsIn s starts → IsStart clocks event s
+  pub all : (source : StartSource) (given : Rdate) → GivesStart clocks event source given → IsSought clocks event w (instant clocks (time_of given)) →
+      since ≤ℤ instant clocks (time_of given) → HasStart starts source (instant clocks (time_of given))
+
+-- the occurrence with this start, if it meets the window
+abbrev pub met_by : Clocks → Window → Event → Start → Option Entry
+met_by clocks w event s =
+    if is_met w (entry_from clocks event s.given) then Some (entry_from clocks event s.given) else None
+
+-- the list, with a start put before it if the test passes
+abbrev pub with_front : Bool → Start → List Start → List Start
+with_front true s starts = s ∷ starts
+with_front false s starts = starts
+
+-- The starts by the values of RDATEs, which are those from a place on. Those whose local is two days or more past the window's end are
+-- left out.
+abbrev pub listed_from : Clocks → Window → Time → ℕ → List Rdate → List Start
+listed_from clocks w first place [] = []
+listed_from clocks w first place (rdate ∷ rdates) =
+    with_front (not (is_past w (time_of (given_by first rdate)))) (start_by clocks (Listed place) (given_by first rdate))
+    (listed_from clocks w first (place + 1) rdates)
+
+-- a start by a PERIOD that meets the window by its own length
+abbrev pub is_span_met : Clocks → Window → Event → Start → Rdate → Bool
+is_span_met clocks w event s (At time) = false
+is_span_met clocks w event s (Span start length) = is_met w (entry_from clocks event s.given)
+
+abbrev pub earlier : Bool → ℤ → ℤ → ℤ
+earlier true least t = int_min least t
+earlier false least t = least
+
+-- the earliest of an instant and of the starts by PERIODs that meet the window
+abbrev pub earliest_from : Clocks → Window → Event → ℤ → List Start → ℤ
+earliest_from clocks w event least [] = least
+earliest_from clocks w event least (s ∷ starts) =
+    earliest_from clocks w event (earlier (is_span_met clocks w event s s.given) least s.moment) starts
+
+-- The first instant at which an event of this length can start and meet the window: none before the window does if what has begun is left out.
+abbrev pub first_met : Clocks → Window → Event → ℤ
+first_met clocks w event = if w.notstarted then w.from else w.from -ℤ seconds_lasting clocks event
+
+-- The instant from which on the rule is read: the first at which an event of this length can meet the window or, if it is earlier, the
+-- earliest start by a PERIOD that meets it, since a local at that instant gives it the event's length.
+abbrev pub earliest : Clocks → Window → Event → List Start → ℤ
+earliest clocks w event starts = earliest_from clocks w event (first_met clocks w event) starts

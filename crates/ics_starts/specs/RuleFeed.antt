@@ -1,0 +1,58 @@
+-- What contracts see of the starts of a rule, which are read one by one.
+use Rattle.std.specs.Prelude.{◌≡◌, ◌<◌, ◌≤◌, ◌<ℤ◌, ◌-ℤ◌, ℕ, ℤ, pos, Bool, true, List}
+use Rattle.ics_fields.specs.Locals.{year_number}
+use Rattle.ics_rule.specs.Cursors.{place_of}
+use Rattle.ics_starts.specs.declared.rule_starts.RuleStarts.{RuleStarts}
+use Rattle.ics_listing.specs.declared.start.Start.{Start}
+use Rattle.ics_starts.specs.Clocks.{clock_of}
+use Rattle.ics_starts.specs.Exclusions.{is_day_in}
+use Rattle.ics_starts.specs.RuleStarts.{is_behind, moment_numbered, settled_by, to_come}
+use Rattle.ics_starts.specs.FileZones.{clocks_in}
+use Rattle.ics_listing.specs.Waiting.{starts_in}
+
+-- the starts that are held
+abbrev pub held_in : RuleStarts → List Start
+held_in s = starts_in s.event.now.start s.held
+
+-- the starts still to come
+abbrev pub starts_left : RuleStarts → List Start
+starts_left s = to_come (clocks_in s.zones) s.event.now s.rule s.window (held_in s) (place_of s.cursor)
+
+-- an instant that is before those of all locals to be read
+abbrev pub settled_in : RuleStarts → ℤ
+settled_in s = settled_by s.event.now.start.stamp s.bounds.most s.day s.next
+
+-- another local has to be read before the first start still to come is known
+abbrev pub is_unsettled : RuleStarts → Bool
+is_unsettled s = is_behind (settled_in s) s.day s.end (held_in s)
+
+-- the starts are those of the same event, in the same zones and window, from the same local on
+pub record HasSameSource (old new : RuleStarts) : Type 0 where
+  pub zones : new.zones ≡ old.zones
+  pub event : new.event ≡ old.event
+  pub window : new.window ≡ old.window
+  pub rule : new.rule ≡ old.rule
+  pub from : new.from ≡ old.from
+  pub end : new.end ≡ old.end
+
+-- The same starts, where locals were passed over of which something holds: none of them is read.
+pub record HasPassed (P : ℕ → Type 0) (old new : RuleStarts) : Type 0 where
+  pub source : HasSameSource old new
+  pub on : place_of old.cursor ≤ place_of new.cursor
+  pub left : starts_left new ≡ to_come (clocks_in old.zones) old.event.now old.rule old.window (held_in old) (place_of new.cursor)
+  pub each : (n : ℕ) → place_of old.cursor ≤ n → n < place_of new.cursor → P n
+
+-- the clock of DTSTART shows one of these days at the local with this number
+abbrev pub IsDayShown : List ℤ → RuleStarts → ℕ → Type 0
+IsDayShown days s n = is_day_in (clock_of (clocks_in s.zones) s.event.now.start) days
+    ((clock_of (clocks_in s.zones) s.event.now.start).moment (pos n -ℤ pos (year_number 1_970))) ≡ true
+
+-- the local with this number means an instant before this one
+abbrev pub IsEarlier : ℤ → RuleStarts → ℕ → Type 0
+IsEarlier t s n = moment_numbered (clocks_in s.zones) s.event.now n <ℤ t
+
+abbrev pub HasSkipped : List ℤ → RuleStarts → RuleStarts → Type 0
+HasSkipped days old new = HasPassed (IsDayShown days old) old new
+
+abbrev pub HasEnded : ℤ → RuleStarts → RuleStarts → Type 0
+HasEnded t old new = HasPassed (IsEarlier t old) old new

@@ -1,0 +1,179 @@
+//! The starts that the EXDATEs of an event remove.
+ghost use Rattle.std.specs.Prelude.{◌≡◌, ◌<ℤ◌, ◌≤ℤ◌, ◌+ℤ◌, ◌||◌, ℤ, not, IfOk};
+ghost use Rattle.std.specs.List.Sorted.{IsSorted};
+ghost use Rattle.std.specs.Ordering.{int_cmp};
+ghost use Rattle.ics_starts.specs.Clocks.{clock_of, instant};
+ghost use Rattle.ics_starts.specs.Exclusions.{excludes, is_among, shown_day, takes_out, with_instant};
+ghost use Rattle.ics_starts.specs.FileZones.{clocks_in, is_past, IsTimeOf};
+ghost use Rattle.ics_fields.specs.Locals.{day_of_local};
+ghost use Rattle.ics_listing.specs.WindowBounds.{window_last, occurrence_first};
+
+use crate::instants::{instant, is_past};
+use crate::zones::FileZones;
+use ics_event::{Event, Time};
+use ics_listing::{Window, date_of};
+use ics_values::{Local, Moment, Stamp};
+use ics_zone::{Bounds, Place};
+use std::alloc::{AllocError, Global};
+
+/// The instants that the EXDATEs of an event remove and, if the event has date-times, the days that
+/// they remove by the clock of DTSTART. Both are in order.
+#[derive(Drop)]
+pub(crate) struct Exclusions {
+    instants: Vec<Moment>,
+    days: Vec<i32>,
+    ghost instants_rise: { IsSorted int_cmp instants.items },
+    ghost days_rise: { IsSorted int_cmp days.items },
+}
+
+impl Exclusions {
+    ghost use Rattle.std.specs.Prelude.{true, MatchOption};
+    ghost use Rattle.jiff_core.specs.Calendar.{IsBetween, IsWithin};
+    ghost use Rattle.ics_fields.specs.Locals.{year_seconds};
+    ghost use Rattle.ics_listing.specs.FileClocks.{Clock};
+    ghost use Rattle.ics_starts.specs.Clocks.{IsBounded};
+    ghost use Rattle.ics_starts.specs.Exclusions.{is_day_in, AreExclusions};
+    ghost use Rattle.ics_starts.specs.FileZones.{IsOwnEvent};
+
+    /// What the EXDATEs remove from the starts before the window's end.
+    pub(crate) fn new(
+        alloc: Global,
+        zones: FileZones<'_>,
+        event: &Event,
+        window: &Window,
+    ) -> Result<Exclusions, AllocError>
+        requires { IsOwnEvent zones event.now }
+        ensures { IfOk result (λ exclusions. AreExclusions (clocks_in zones.entry) event.now window.now
+            exclusions.instants.items exclusions.days.items) }
+    {
+        let mut instants = Vec::new(alloc);
+        let mut days = Vec::new(alloc);
+        for exdate in &event.exdates {
+            push_exdate(
+                &mut instants,
+                &mut days,
+                zones,
+                event.start,
+                *exdate,
+                window,
+            )?;
+        }
+        instants.sort_unstable();
+        days.sort_unstable();
+        Ok(Exclusions { instants, days })
+    }
+
+    /// Whether a start at an instant is removed.
+    pub(crate) fn has(&self, zones: FileZones<'_>, first: Time, moment: Moment) -> bool
+        requires first { IsTimeOf zones.zones.now first }
+        requires late { occurrence_first ≤ℤ moment }
+        requires early { moment <ℤ window_last }
+        ensures { result ≡ takes_out (clock_of (clocks_in zones.entry) first)
+            self.now.instants.items self.now.days.items moment }
+    {
+        if is_among(&self.instants, moment) {
+            return true;
+        }
+        if self.days.is_empty() {
+            return false;
+        }
+        let day = shown_day(zones, first, moment);
+        self.days.binary_search(&day).is_ok()
+    }
+
+    /// The end, in seconds, of the locals from one on at which the clock shows a removed day whatever offset between these two it has. None if
+    /// there are no such locals.
+    pub(crate) fn skips(&self, next: Moment, bounds: Bounds) -> Option<Moment>
+        requires next { IsBetween (year_seconds 0) (year_seconds 10_000) next }
+        requires least { IsWithin 93_599 bounds.least }
+        requires most { IsWithin 93_599 bounds.most }
+        ensures { MatchOption result (Unit {0}) (λ to. (clock : Clock) → IsBounded clock bounds → (local : ℤ) → next ≤ℤ local → local <ℤ to
+            → is_day_in clock self.now.days.items (clock.moment local) ≡ true) }
+    {
+        if self.days.is_empty() {
+            return None;
+        }
+        let local = Local::of_seconds(next);
+        let second = i64::from(local.second);
+        let apart = bounds.most - bounds.least;
+        if second < apart {
+            return None;
+        }
+        let left = 86_400 - second - apart;
+        match self.days.binary_search(&local.day) {
+            Ok(_) => Some(next + left),
+            Err(_) => None,
+        }
+    }
+}
+
+/// Whether an instant is one of a list in order.
+pub(crate) fn is_among(instants: &[Moment], moment: Moment) -> bool
+    requires { IsSorted int_cmp instants.now }
+    ensures { result ≡ is_among instants.now moment }
+{
+    instants.binary_search(&moment).is_ok()
+}
+
+/// Adds what an EXDATE removes from an event with this DTSTART. If the event has dates, a value of any
+/// form means its date.
+fn push_exdate(
+    instants: &mut Vec<Moment>,
+    days: &mut Vec<i32>,
+    zones: FileZones<'_>,
+    first: Time,
+    exdate: Time,
+    window: &Window,
+) -> Result<(), AllocError>
+    requires { IsTimeOf zones.zones.now exdate }
+    ensures { IfOk result (λ _. (t : ℤ) → t <ℤ window.now.to → let clocks = clocks_in zones.entry in
+        takes_out (clock_of clocks first) instants.new.items days.new.items t
+        ≡ (takes_out (clock_of clocks first) instants.old.items days.old.items t || excludes clocks first exdate t)) }
+{
+    match (first.stamp, exdate.stamp) {
+        (Stamp::Date(_), _) => push_instant(instants, zones, date_of(exdate), window)?,
+        (_, Stamp::Date(day)) => days.push(day)?,
+        _ => push_instant(instants, zones, exdate, window)?,
+    }
+    Ok(())
+}
+
+/// Adds the instant of a time, unless its local is two days or more past the window's end.
+fn push_instant(
+    instants: &mut Vec<Moment>,
+    zones: FileZones<'_>,
+    time: Time,
+    window: &Window,
+) -> Result<(), AllocError>
+    requires { IsTimeOf zones.zones.now time }
+    ensures { IfOk result (λ _. instants.new.items
+        ≡ with_instant (not (is_past window.now time)) instants.old.items (instant (clocks_in zones.entry) time)) }
+{
+    if !is_past(time, window) {
+        instants.push(instant(zones, time))?;
+    }
+    Ok(())
+}
+
+/// The day that a time's clock shows at an instant.
+fn shown_day(zones: FileZones<'_>, time: Time, moment: Moment) -> i32
+    requires time { IsTimeOf zones.zones.now time }
+    requires late { occurrence_first ≤ℤ moment }
+    requires early { moment <ℤ window_last }
+    ensures { result ≡ shown_day (clock_of (clocks_in zones.entry) time) moment }
+{
+    match time.stamp {
+        Stamp::Utc(_) => Local::of_seconds(moment).day,
+        Stamp::Date(_) | Stamp::Floating(_) => day_at(zones.display, moment),
+        Stamp::Zoned(_) => day_at(zones.zone_of(time), moment),
+    }
+}
+
+/// The day that the clock of a place shows at an instant.
+fn day_at<P: Place>(place: &P, moment: Moment) -> i32
+    requires late { occurrence_first ≤ℤ moment }
+    requires early { moment <ℤ window_last }
+    ensures { result ≡ day_of_local (moment +ℤ P.offset_at place.now moment) }
+{
+    place.local(moment).day
+}

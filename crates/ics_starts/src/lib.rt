@@ -1,0 +1,26 @@
+//! The recurrence set of one event: the starts that its rule and its RDATEs give and its EXDATEs leave, each with its finish.
+#![tactic(auto)]
+
+mod exclusion;
+mod finish;
+mod instants;
+mod kind;
+mod lasting;
+mod laws;
+mod listed;
+mod mark;
+mod occurrence;
+mod rule_starts;
+mod series;
+mod single;
+mod single_events;
+mod starts;
+mod zones;
+
+pub use instants::instant;
+pub use laws::{each_start, most_in_days, none_excluded, one_start, raw_counted, starts_by_until};
+pub use mark::Mark;
+pub use series::Series;
+pub use single::Single;
+pub use single_events::is_single;
+pub use zones::FileZones;

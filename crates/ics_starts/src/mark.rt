@@ -1,0 +1,74 @@
+//! Where the search of a rule began, so that a later search need not count again under COUNT.
+ghost use Rattle.std.specs.Prelude.{◌≡◌, ◌≤◌, ◌==◌, ◌&&◌, int_lt, nat_le, is_some, true, MatchOption, Some};
+ghost use Rattle.std.specs.Int.{int_min};
+ghost use Rattle.ics_fields.specs.Days.{IsDayNumber};
+ghost use Rattle.ics_fields.specs.Locals.{number};
+ghost use Rattle.ics_period.specs.PeriodNumbers.{rules_end};
+ghost use Rattle.ics_starts.specs.RuleMarks.{IsBegun, IsCountMark};
+ghost use Rattle.ics_starts.specs.RuleStarts.{midnight_number, HasLookedTo};
+
+use ics_fields::Parts;
+use ics_rule::{Cursor, Rule};
+use ics_values::Local;
+
+/// The cursor of a rule, as it was when a search for the rule's starts began at a local.
+#[derive(Clone, Copy)]
+pub struct Mark {
+    pub(crate) from: Local,
+    pub(crate) cursor: Cursor,
+}
+
+impl Mark {
+    /// The cursor, moved on to a midnight.
+    fn moved_to(self, rule: &Rule, from: Local) -> Cursor
+        requires mark { IsCountMark rule.now self }
+        requires day { IsDayNumber from.day }
+        requires midnight { from.second ≡ 0 }
+        requires later { number self.from ≤ number from }
+        requires early { number from ≤ rules_end }
+        ensures { IsBegun rule.now from result }
+    {
+        let mut cursor = self.cursor;
+        loop {
+            match cursor.next(rule, from) {
+                None => return cursor,
+                Some(_) => {}
+            }
+        }
+    }
+}
+
+/// A mark of a rule, if that has COUNT. Without it a search begins anywhere at once.
+pub(crate) fn counted(parts: Parts, mark: Option<Mark>) -> Option<Mark>
+    ensures { MatchOption result (Unit {0}) (λ m. (mark ≡ Some m) × (is_some parts.count ≡ true)) }
+{
+    match parts.count {
+        None => None,
+        Some(_) => mark,
+    }
+}
+
+/// The cursor of a rule at a local, where its search up to the midnight of day `end` begins. It goes on
+/// from a mark that is not later.
+pub(crate) fn begun(rule: &Rule, from: Local, end: i32, mark: Option<Mark>) -> Cursor
+    requires from { IsDayNumber from.day }
+    requires end { IsDayNumber end }
+    requires early { midnight_number end ≤ rules_end }
+    requires mark { MatchOption mark (Unit {0}) (IsCountMark rule.now) }
+    ensures begun { IsBegun rule.now from result }
+    ensures looked { HasLookedTo rule.now from (int_min from.day end) result }
+{
+    match mark {
+        Some(mark) if is_passed(mark.from, from, end) => mark.moved_to(rule, from),
+        _ => Cursor::at(rule, from),
+    }
+}
+
+/// Whether a local is a midnight before that of a day, and not before another local.
+fn is_passed(before: Local, local: Local, end: i32) -> bool
+    requires before { IsDayNumber before.day }
+    requires local { IsDayNumber local.day }
+    ensures { result ≡ ((local.second == 0) && (int_lt local.day end && nat_le (number before) (number local))) }
+{
+    local.second == 0 && local.day < end && before.number() <= local.number()
+}

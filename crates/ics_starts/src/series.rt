@@ -1,0 +1,460 @@
+//! The occurrences of one event that meet a window, found one by one.
+ghost use Rattle.std.specs.Prelude.{◌≡◌, ◌≤ℤ◌, slice_get, All, IfOk, List, MatchOption, None, OnOk};
+ghost use Rattle.ics_fields.specs.Locals.{number};
+ghost use Rattle.ics_listing.specs.Entry.{entry_cmp};
+ghost use Rattle.ics_starts.specs.EventLaws.{own-event-prop};
+ghost use Rattle.ics_starts.specs.Exclusions.{AreExclusions};
+ghost use Rattle.ics_listing.specs.StartOrder.{moment_cmp};
+ghost use Rattle.ics_starts.specs.Found.{IsStartIn};
+ghost use Rattle.ics_listing.specs.Listing.{IsIn};
+ghost use Rattle.ics_starts.specs.RuleMarks.{IsBegun, IsMarkOf};
+ghost use Rattle.ics_starts.specs.Quiet.{AreQuiet};
+ghost use Rattle.ics_listing.specs.Merged.{cut};
+ghost use Rattle.ics_listing.specs.Rising.{Rises, Rises-prop};
+ghost use Rattle.ics_starts.specs.RuleFeed.{starts_left};
+ghost use Rattle.ics_starts.specs.SeriesLaws.{first-given-prop, own-rule-prop, ruled-prop, starts-in-prop, taken-out-prop};
+ghost use Rattle.ics_starts.specs.SeriesStarts.{first_asked, first_given, first_of, given_of, left, listed_apart, rule_asked, rule_left, AreStartsIn, AreEnded};
+ghost use Rattle.ics_starts.specs.SeriesStarts.{AreSkipped, HasOwnRule, HasRuled, HasSameRule, IsFirstGiven, IsFirstOf, IsReady, IsRuleFrom};
+ghost use Rattle.ics_listing.specs.KnownStarts.{listed_left};
+ghost use Rattle.ics_starts.specs.FileZones.{clocks_in, IsOwnEvent};
+ghost use Rattle.ics_listing.specs.declared.start.Start.{Start};
+
+use crate::exclusion::Exclusions;
+use crate::instants::bounds;
+use crate::kind::kind_of;
+use crate::listed::{listed_again, push_listed};
+use crate::mark::{Mark, counted};
+use crate::occurrence::met_by;
+use crate::rule_starts::RuleStarts;
+use crate::starts::{earliest, first_given, first_nearby, seconds_back, start_at};
+use crate::zones::FileZones;
+use ics_event::Event;
+use ics_listing::{Begins, Coming, Feed, ListedStarts, Occurrence, Start, Window, local_of};
+use ics_rule::Rule;
+use ics_values::{Moment, Stamp};
+use std::alloc::{AllocError, Global};
+
+/// The occurrences of an event that meet a window and begin at an instant or later.
+#[derive(Drop)]
+pub struct Series<'a> {
+    zones: FileZones<'a>,
+    event: &'a Event,
+    window: Window,
+    since: Moment,
+    // No start by the rule before this instant gives an occurrence. It is computed once a start gives none.
+    first: Option<Moment>,
+    exclusions: Exclusions,
+    rule_starts: Option<RuleStarts<'a>>,
+    // The starts by RDATEs and, if there is no rule, the one at DTSTART.
+    listed: ListedStarts,
+    ghost first_is: { IsFirstGiven (clocks_in zones) window event.now since first } by { first-given-prop (clocks_in zones) window event.now since first },
+    ghost own: { IsOwnEvent zones event.now } by { own-event-prop zones event.now },
+    ghost taken_out: { AreExclusions (clocks_in zones) event.now window exclusions.instants.items exclusions.days.items } by { taken-out-prop (clocks_in zones)
+        event.now window exclusions.instants.items exclusions.days.items },
+    ghost known: { AreStartsIn zones (left rule_starts listed) } by { starts-in-prop zones (left rule_starts listed) },
+    // A start that the rule hides may come to light.
+    ghost listed_known: { AreStartsIn zones (listed_left listed) } by { starts-in-prop zones (listed_left listed) },
+    ghost ruled: { HasRuled (clocks_in zones) event.now rule_starts
+        (given_of (clocks_in zones) window event.now since (left rule_starts listed)) } by { ruled-prop (clocks_in zones) event.now rule_starts
+            (given_of (clocks_in zones) window event.now since (left rule_starts listed)) },
+    ghost own_rule: { HasOwnRule zones event.now window (first_of (clocks_in zones) window event.now since) rule_starts } by { own-rule-prop zones event.now
+        window (first_of (clocks_in zones) window event.now since) rule_starts },
+    ghost rising: { Rises entry_cmp (given_of (clocks_in zones) window event.now since (left rule_starts listed)) } by { Rises-prop entry_cmp
+        (given_of (clocks_in zones) window event.now since (left rule_starts listed)) },
+}
+
+/// The starts that are known from the beginning: those by RDATEs and, if there is no rule, the one at
+/// DTSTART. A rule keeps DTSTART.
+fn listed_apart(
+    alloc: Global,
+    zones: FileZones<'_>,
+    event: &Event,
+    window: &Window,
+) -> Result<Vec<Start>, AllocError>
+    requires { IsOwnEvent zones event.now }
+    ensures { IfOk result (λ starts. starts.items ≡ listed_apart (clocks_in zones.entry) window.now event.now event.now.rule) }
+{
+    let mut starts = Vec::new(alloc);
+    if event.rule.is_none() {
+        starts.push(start_at(zones, event, local_of(event.start.stamp)))?;
+    }
+    push_listed(&mut starts, zones, event, window)?;
+    Ok(starts)
+}
+
+/// The starts that the rule of an event gives, if it has one: those from an instant on and, if the
+/// event is long, earlier ones that can still meet the window.
+fn starts_by_rule<'a>(
+    alloc: Global,
+    zones: FileZones<'a>,
+    event: &'a Event,
+    window: Window,
+    since: Moment,
+    listed: &[Start],
+    mark: Option<Mark>,
+) -> Option<RuleStarts<'a>>
+    requires event { IsOwnEvent zones event.now }
+    requires listed { All (IsStartIn zones) listed.now }
+    requires mark { IsMarkOf event.now mark }
+    ensures own { HasOwnRule zones.entry event.entry.now window (first_asked (clocks_in zones.entry) window event.entry.now since listed.entry.now) result }
+    ensures from { MatchOption result (event.entry.now.rule ≡ None)
+        (λ starts. IsRuleFrom (clocks_in zones.entry) event.entry.now window since listed.entry.now (starts_left starts)) }
+    ensures begun { MatchOption result (Unit {0}) (λ starts. IsBegun starts.rule starts.from starts.cursor) }
+{
+    let parts = *event.rule.as_ref()?.parts();
+    let first = local_of(event.start.stamp);
+    let rule = Rule::new(parts, first, kind_of(event.start.stamp));
+    let bounds = bounds(zones, event.start);
+    let earliest = earliest(zones, event, &window, listed);
+    // All instants this late after the window's end are treated as one: no day is read for them.
+    let late = window.to + 14 * 86_400;
+    // A search under COUNT goes on from the midnight where another began.
+    let from = first_nearby(
+        first,
+        seconds_back(event, bounds.least),
+        parts.count.is_some(),
+        earliest.max(since.min(late)),
+    );
+    let mark = counted(parts, mark);
+    Some(RuleStarts::new(alloc, zones, event, window, rule, from, mark))
+}
+
+/// The first of the starts that a rule still gives.
+fn peek_rule(rule: &mut Option<RuleStarts<'_>>) -> Result<Option<Start>, AllocError>
+    ensures same { rule_left rule.new ≡ rule_left rule.old }
+    ensures rule { HasSameRule rule.old rule.new }
+    ensures first { IfOk result (λ given. given ≡ slice_get (rule_left rule.new) 0) }
+    ensures ready { OnOk result (IsReady rule.new) }
+{
+    match rule {
+        None => Ok(None),
+        Some(starts) => starts.peek(),
+    }
+}
+
+/// Drops the first of these, if it is at the instant of this one.
+fn pass_rule(rule: &mut Option<RuleStarts<'_>>, start: &Start)
+    requires { IsReady rule.old }
+    ensures left { rule_left rule.new ≡ cut moment_cmp start.now (rule_left rule.old) }
+    ensures rule { HasSameRule rule.old rule.new }
+    ensures asked { rule_asked rule.new ≡ rule_asked rule.old }
+{
+    if let Some(starts) = rule {
+        starts.pass(start);
+    }
+}
+
+/// Passes over the next locals of a rule, if the clock shows a removed day at all of them.
+fn skip_rule(rule: &mut Option<RuleStarts<'_>>, exclusions: &Exclusions)
+    ensures { AreSkipped exclusions.now.days.items rule.old rule.new }
+{
+    if let Some(starts) = rule {
+        starts.skip(exclusions);
+    }
+}
+
+/// Passes over the next locals of a rule that mean instants before one.
+fn pass_rule_before(rule: &mut Option<RuleStarts<'_>>, moment: Moment)
+    ensures { AreEnded moment rule.old rule.new }
+{
+    if let Some(starts) = rule {
+        starts.pass_before(moment);
+    }
+}
+
+/// The first start of two lists, of which these are the first. If both are at one instant, it is the one
+/// by the rule.
+fn earlier_of(ruled: Option<Start>, listed: Option<Start>) -> Option<Start>
+    ensures { (xs ys : List Start) → Rises moment_cmp xs → Rises moment_cmp ys → ruled ≡ slice_get xs 0 → listed ≡ slice_get ys 0
+        → IsFirstOf result xs ys }
+{
+    match (ruled, listed) {
+        (Some(a), Some(b)) => {
+            if b.moment < a.moment {
+                Some(b)
+            } else {
+                Some(a)
+            }
+        }
+        (Some(a), None) => Some(a),
+        (None, listed) => listed,
+    }
+}
+
+/// An instant before which none of the starts that a rule still gives is.
+fn rule_from(rule: &Option<RuleStarts<'_>>) -> Moment
+    ensures { (start : Start) → IsIn start (rule_left rule.now) → result ≤ℤ start.moment }
+{
+    match rule {
+        None => Moment::MAX,
+        Some(starts) => starts.from(),
+    }
+}
+
+/// The same of the starts that are known.
+fn listed_from(listed: &ListedStarts) -> Moment
+    ensures { (start : Start) → IsIn start (listed_left listed.now) → result ≤ℤ start.moment }
+{
+    match listed.peek() {
+        None => Moment::MAX,
+        Some(first) => first.moment,
+    }
+}
+
+/// An instant before which no local after DTSTART gives a start, of those from the first that was read on and
+/// at the window's end or later.
+fn rule_quiet(rule: &Option<RuleStarts<'_>>) -> Moment
+    ensures { MatchOption rule.now (Unit {0}) (λ s. AreQuiet (clocks_in s.zones) s.event.now s.rule s.window (number s.from) result) }
+{
+    match rule {
+        None => Moment::MAX,
+        Some(starts) => starts.quiet(),
+    }
+}
+
+impl<'a> Series<'a> {
+    ghost use Rattle.std.specs.Prelude.{◌≤◌, [], ◌∷◌, false, length, IfOk, Some};
+    ghost use Rattle.std.specs.Option.{option_map};
+    ghost use Rattle.ics_listing.specs.Entry.{Entry, entry_of};
+    ghost use Rattle.ics_starts.specs.Quiet.{IsQuietTo};
+    ghost use Rattle.ics_listing.specs.Listing.{IsListing};
+    ghost use Rattle.ics_starts.specs.SeriesFeed.{series_left, series_near, series_of, series_sources, source_of, IsSameSeries};
+    ghost use Rattle.ics_starts.specs.SeriesStarts.{wanted_by, IsSeriesMet};
+
+    /// The occurrences of an event of the file that meet the window and begin at the instant `since` or later.
+    /// Under COUNT the rule is searched from the mark on, which a series of the same event has given.
+    pub fn new(
+        alloc: Global,
+        zones: FileZones<'a>,
+        event: &'a Event,
+        window: Window,
+        since: Moment,
+        mark: Option<Mark>,
+    ) -> Result<Series<'a>, AllocError>
+        requires own { IsOwnEvent zones event.now }
+        requires mark { IsMarkOf event.now mark }
+        ensures listing { IfOk result (λ series. IsListing entry_cmp
+            (IsSeriesMet (clocks_in zones.entry) event.entry.now window since)
+            (⟦<Series<'a> as Coming>⟧.coming series)) }
+        ensures sources { IfOk result (λ series. series_sources series ≡ source_of (clocks_in zones.entry) event.entry.now window since) }
+        ensures begun { IfOk result (λ series. MatchOption series.rule_starts (Unit {0}) (λ s. IsBegun s.rule s.from s.cursor)) }
+    {
+        let exclusions = Exclusions::new(alloc, zones, event, &window)?;
+        let listed = listed_apart(alloc, zones, event, &window)?;
+        let rule_starts = starts_by_rule(alloc, zones, event, window, since, &listed, mark);
+        Ok(Series {
+            zones,
+            event,
+            window,
+            since,
+            first: None,
+            exclusions,
+            rule_starts,
+            listed: ListedStarts::new(alloc, listed)?,
+        })
+    }
+
+    /// The first start still to come.
+    fn peek(&mut self) -> Result<Option<Start>, AllocError>
+        ensures left { series_left self.new ≡ series_left self.old }
+        ensures same { IsSameSeries self.old self.new }
+        ensures first { IfOk result (λ first. IsFirstOf first (rule_left self.new.rule_starts) (listed_left self.new.listed)) }
+        ensures ready { OnOk result (IsReady self.new.rule_starts) }
+    {
+        let ruled = peek_rule(&mut self.rule_starts)?;
+        Ok(earlier_of(ruled, self.listed.peek()))
+    }
+
+    /// Drops the first start still to come. `peek` has answered it before.
+    fn pass(&mut self, start: &Start)
+        requires first { IsFirstOf (Some start.now) (rule_left self.old.rule_starts) (listed_left self.old.listed) }
+        requires ready { IsReady self.old.rule_starts }
+        ensures taken { series_left self.old ≡ start.now ∷ series_left self.new }
+        ensures same { IsSameSeries self.old self.new }
+        ensures near { (o : Entry) → IsIn o (series_of self.old (series_left self.old)) → series_near self.new o }
+    {
+        pass_rule(&mut self.rule_starts, start);
+        self.listed.pass(start);
+    }
+
+    /// Whether a start can give an occurrence. One that is not before the window does, unless an EXDATE
+    /// removes it, and is not looked at any further.
+    fn can_give(&self, start: Start) -> bool
+        requires { IsStartIn self.now.zones start }
+        ensures { result ≡ false → wanted_by (clocks_in self.now.zones) self.now.window self.now.event.now self.now.since start ≡ None }
+    {
+        if self.window.from <= start.moment {
+            return true;
+        }
+        self.wanted(start).is_some()
+    }
+
+    /// Drops the starts that give no occurrence, up to the first that can give one. Whether there is one.
+    pub fn settle(&mut self) -> Result<bool, AllocError>
+        ensures coming { series_of self.new (series_left self.new) ≡ series_of self.old (series_left self.old) }
+        ensures same { IsSameSeries self.old self.new }
+        ensures none { IfOk result (λ some. some ≡ false → series_of self.new (series_left self.new) ≡ []) }
+    {
+        while let Some(start) = self.peek()? {
+            if self.can_give(start) {
+                return Ok(true);
+            }
+            self.pass(&start);
+            self.skip();
+        }
+        Ok(false)
+    }
+
+    /// The instant from which on the occurrences of the series begin.
+    pub fn since(&self) -> Moment
+        ensures { result ≡ self.now.since }
+    {
+        self.since
+    }
+
+    /// An instant before which no occurrence begins, of those that begin at the window's end or later and are
+    /// of the series.
+    pub fn quiet(&self) -> Moment
+        ensures { IsQuietTo (clocks_in self.now.zones) self.now.event.now self.now.window self.now.since result }
+    {
+        let listed = listed_again(self.zones, self.event, self.window.to);
+        listed.min(rule_quiet(&self.rule_starts))
+    }
+
+    /// Passes over locals that the rule need not be read for, since what they give is removed or has ended.
+    fn skip(&mut self)
+        ensures coming { series_of self.new (series_left self.new) ≡ series_of self.old (series_left self.old) }
+        ensures fewer { length (series_left self.new) ≤ length (series_left self.old) }
+        ensures same { IsSameSeries self.old self.new }
+    {
+        self.skip_ended();
+        self.skip_removed();
+    }
+
+    /// The first instant at which a start by the rule can give an occurrence.
+    fn first_given(&self) -> Moment
+        ensures { result ≡ first_given (clocks_in self.now.zones) self.now.window self.now.event.now self.now.since }
+    {
+        match self.first {
+            Some(first) => first,
+            None => first_given(self.zones, self.event, &self.window, self.since),
+        }
+    }
+
+    /// Passes over locals at which nothing begins that can meet the window, up to the next start that is known: one by the rule at its instant
+    /// hides it.
+    fn skip_ended(&mut self)
+        ensures coming { series_of self.new (series_left self.new) ≡ series_of self.old (series_left self.old) }
+        ensures fewer { length (series_left self.new) ≤ length (series_left self.old) }
+        ensures same { IsSameSeries self.old self.new }
+    {
+        let first = self.first_given();
+        let listed = listed_from(&self.listed);
+        self.first = Some(first);
+        pass_rule_before(&mut self.rule_starts, first.min(listed));
+    }
+
+    /// Passes over locals at which the clock shows a removed day.
+    fn skip_removed(&mut self)
+        ensures coming { series_of self.new (series_left self.new) ≡ series_of self.old (series_left self.old) }
+        ensures fewer { length (series_left self.new) ≤ length (series_left self.old) }
+        ensures same { IsSameSeries self.old self.new }
+    {
+        // Of dates no day is removed, but the instant of its midnight.
+        let event = self.event;
+        match event.start.stamp {
+            Stamp::Date(_) => {}
+            _ => skip_rule(&mut self.rule_starts, &self.exclusions),
+        }
+    }
+
+    /// The occurrence with a start, if it belongs to the list.
+    fn wanted(&self, start: Start) -> Option<Occurrence<'a>>
+        requires { IsStartIn self.now.zones start }
+        ensures { option_map entry_of result ≡ wanted_by (clocks_in self.now.zones) self.now.window self.now.event.now self.now.since
+            start }
+    {
+        if start.moment < self.since {
+            return None;
+        }
+        let (zones, event) = (self.zones, self.event);
+        let occurrence = met_by(zones, event, start, &self.window)?;
+        if self.exclusions.has(zones, event.start, occurrence.start) {
+            None
+        } else {
+            Some(occurrence)
+        }
+    }
+}
+
+impl<'a> Coming for Series<'a> {
+    ghost use Rattle.ics_starts.specs.SeriesFeed.{series_left, series_near, series_near-prop, series_of, series_sources};
+
+    ghost coming = { λ series. series_of series (series_left series) };
+
+    ghost sources = { series_sources };
+
+    ghost near = { series_near };
+
+    ghost near_prop = { series_near-prop };
+}
+
+impl<'a> Series<'a> {
+    ghost use Rattle.std.specs.Prelude.{length};
+    ghost use Rattle.ics_starts.specs.RuleHolding.{rule_looked, series_holds};
+    ghost use Rattle.ics_starts.specs.RuleMarks.{IsMarkOf};
+
+    /// Where the search of its rule begins, of which nothing was read yet. Without a rule there is none.
+    pub fn mark(&self) -> Option<Mark>
+        requires { MatchOption self.now.rule_starts (Unit {0}) (λ s. IsBegun s.rule s.from s.cursor) }
+        ensures { IsMarkOf self.now.event.now result }
+    {
+        match &self.rule_starts {
+            None => None,
+            Some(starts) => Some(starts.mark()),
+        }
+    }
+
+    /// How many starts of its rule are held.
+    pub fn held(&self) -> usize
+        ensures { result ≡ length (series_holds self.now) }
+    {
+        match &self.rule_starts {
+            None => 0,
+            Some(starts) => starts.held(),
+        }
+    }
+
+    /// How many periods of its rule were looked at.
+    pub fn steps(&self) -> u64
+        ensures { result ≡ rule_looked self.now.rule_starts }
+    {
+        match &self.rule_starts {
+            None => 0,
+            Some(starts) => starts.steps(),
+        }
+    }
+}
+
+impl<'a> Begins for Series<'a> {
+    fn from(&self) -> Moment {
+        let starts = rule_from(&self.rule_starts).min(listed_from(&self.listed));
+        self.since.max(starts)
+    }
+}
+
+impl<'a> Feed<'a> for Series<'a> {
+    ghost rises = { λ series. series.rising };
+
+    fn next(&mut self) -> Result<Option<Occurrence<'a>>, AllocError> {
+        while let Some(start) = self.peek()? {
+            let wanted = self.wanted(start);
+            self.pass(&start);
+            if let Some(occurrence) = wanted {
+                return Ok(Some(occurrence));
+            }
+            self.skip();
+        }
+        Ok(None)
+    }
+}
