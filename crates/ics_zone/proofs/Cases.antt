@@ -26,3 +26,6 @@ int_le_false a b h = grind (arith, ints)
 
 pub true_int_le : (a b : ℤ) → a ≤ℤ b → int_le a b ≡ true
 true_int_le a b h = grind (arith, ints)
+
+pub false_int_le : (a b : ℤ) → b <ℤ a → int_le a b ≡ false
+false_int_le a b h = grind (arith, ints)

@@ -16,8 +16,13 @@ pub mod ListingLemmas
 pub mod ZoneSteps
 pub mod JumpLemmas
 pub mod WalkLemmas
+pub mod GapLemmas
+pub mod StretchLemmas
 pub mod SweepLemmas
 pub mod TableLemmas
 pub mod CandidateLemmas
 pub mod ReadLemmas
 pub mod BoundsLemmas
+pub mod FileStretchLemmas
+pub mod RuleTurnLemmas
+pub mod RuleStretchLemmas

@@ -1,6 +1,7 @@
 -- Words of private contracts and of proofs: no public clause reaches them.
 pub mod Near
 pub mod FileBounds
+pub mod FileStretches
 pub mod Searches
 pub mod MomentSearch
 pub mod ZoneBounds
@@ -9,7 +10,10 @@ pub mod OnsetSets
 pub mod ZoneOnsets
 pub mod Tables
 pub mod Walks
+pub mod GapStretches
 pub mod Sweeps
+pub mod Narrowed
 pub mod Answers
 pub mod Hours
 pub mod Marks
+pub mod RuleTurns

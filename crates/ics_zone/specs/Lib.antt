@@ -3,6 +3,7 @@ pub mod Bounds
 pub mod DisplayTexts
 pub mod DisplayFaults
 pub mod JiffZones
+pub mod Stretches
 pub mod ZoneFiles
 pub mod Observances
 pub mod ZoneOffsets

@@ -4,11 +4,12 @@ ghost use Rattle.jiff.specs.Words.{plain_zone, nanos_of_seconds, civil_nanos};
 ghost use Rattle.ics_zone.specs.Bounds.{HasBounds};
 ghost use Rattle.ics_zone.specs.JiffZones.{plain_said, IsMomentIn, IsOffsetIn};
 ghost use Rattle.ics_zone.specs.Seconds.{IsDay, IsMoment};
+ghost use Rattle.ics_zone.specs.Stretches.{IsStretch};
 ghost use Rattle.ics_zone.specs.ZoneSaid.{ZoneSaid, jiff_said, said_offset, said_moment};
 ghost use Rattle.ics_fields.specs.Locals.{seconds_at};
 
 use crate::shared_table::SharedTable;
-use crate::{Bounds, ZoneFile};
+use crate::{Bounds, Stretch, ZoneFile};
 use ics_fields::{Local, Moment};
 use jiff::Timestamp;
 use jiff::civil::DateTime;
@@ -87,6 +88,18 @@ impl JiffZone {
             JiffZone::Fixed(offset) => Bounds::of_offset(*offset),
             JiffZone::Posix(rule) => Bounds::of_offset(rule.std_offset).with_rule(*rule),
             JiffZone::Table(table) => table.bounds(),
+        }
+    }
+
+    /// A stretch of locals about one, given by its seconds.
+    pub fn stretch(&self, local: Moment) -> Stretch
+        requires { IsMoment local }
+        ensures { IsStretch (said_offset (jiff_said self.now)) (said_moment (jiff_said self.now)) result }
+    {
+        match self {
+            JiffZone::Fixed(offset) => Stretch::always(*offset),
+            JiffZone::Posix(rule) => Stretch::of_rule(*rule, local),
+            JiffZone::Table(table) => Stretch::of_table(table.get(), local),
         }
     }
 }

@@ -12,18 +12,20 @@ ghost use Rattle.ics_zone.specs.Inner.OnsetSets.{IsSearched};
 ghost use Rattle.ics_zone.specs.Inner.ZoneOnsets.{AreOnsetsOfAll, AreSteady, HaveOffsets, IsLatestOf};
 ghost use Rattle.ics_zone.specs.Inner.Tables.{IsTable};
 
-use crate::Bounds;
 use crate::answers::{Answer, add_answers, group_end};
 use crate::clock::{FIRST_HELD, LAST_HELD, is_moment};
+use crate::gap_stretch::told_gap;
 use crate::latest::{
     Latest, Steady, clear_after, first_listed, first_offset, latest_of, latest_within, look_on,
     next_onset, next_past, overrides,
 };
 use crate::onsets::Onsets;
+use crate::stretches::{NO_OFFSET, all_from, narrowed, span_over};
 use crate::table::{first_instant, next_of, onset_of, table_of};
 use crate::walk::moment_in;
 use crate::zone_fault::ZoneFault;
 use crate::zone_observances::ZoneObservances;
+use crate::{Bounds, Stretch};
 use ics_fields::{Local, Moment};
 use ics_values::{Observance, are_same_observances};
 use std::alloc::{AllocError, Global};
@@ -62,6 +64,15 @@ const LISTED: usize = 1_500_000;
 
 /// How many onsets near one local are listed for each observance of such a zone.
 const NEAR_OF_EACH: usize = 16;
+
+/// A zone that has more offsets has the onsets near a local listed for a stretch.
+const FEW_OFFSETS: usize = 4;
+
+/// No gap is longer.
+const GAP: i64 = 2 * DAY;
+
+/// How many seconds behind a local they are listed up to, if they are not too many.
+const STRETCHED: i64 = 10 * DAY;
 
 /// Where the instants of many locals are found at once, those of so many days are mostly found together.
 const DAYS: u32 = 32;
@@ -110,6 +121,7 @@ impl Model for Observed {
 
 impl Observed {
     ghost use Rattle.ics_zone.specs.Bounds.{HasBounds};
+    ghost use Rattle.ics_zone.specs.Stretches.{IsStretch};
     ghost use Rattle.ics_zone.specs.ZoneOffsets.{IsOffset, zone_offset};
     ghost use Rattle.ics_zone.specs.Moments.{shown, IsFirstTime, IsInGap, IsMomentOf, zone_moment};
     ghost use Rattle.ics_zone.specs.Inner.ZoneOnsets.{IsJump, IsSteady};
@@ -270,6 +282,89 @@ impl Observed {
             least: least.max(-SHORT),
             most: most.min(SHORT),
         }
+    }
+
+    /// A stretch of locals from one on, given by its seconds, that the clock shows, or skips, by one offset.
+    pub fn stretch(&self, seconds: i64) -> Stretch
+        requires { IsMoment seconds }
+        ensures { IsStretch (zone_offset self.now.said.items) (zone_moment self.now.said.items) result }
+    {
+        if self.offsets.len() == 1 {
+            return Stretch::of_bounds(self.bounds());
+        }
+        if let Some(stretch) = self.stretch_by(&self.held, seconds) {
+            return stretch;
+        }
+        if let Some(stretch) = self.listed_stretch(seconds, self.stretched()) {
+            return stretch;
+        }
+        match self.listed_stretch(seconds, 0) {
+            Some(stretch) => stretch,
+            None => Stretch::none(),
+        }
+    }
+
+    /// Whether it has so few offsets that spans are made for the instants at which each of them may show a local.
+    fn has_few_offsets(&self) -> bool {
+        self.offsets.len() <= FEW_OFFSETS && !self.has_many()
+    }
+
+    /// How many seconds behind a local the onsets are listed for a stretch. In a zone of few offsets it is only for a gap that they are listed.
+    fn stretched(&self) -> i64
+        ensures { IsWithin 10_000_000 result }
+    {
+        if self.has_few_offsets() {
+            GAP
+        } else {
+            STRETCHED
+        }
+    }
+
+    /// A stretch from a local on, given by its seconds, by spans up to so many seconds behind it, which are not held. None if their onsets are too
+    /// many or an allocation fails.
+    fn listed_stretch(&self, seconds: i64, ahead: i64) -> Option<Stretch>
+        requires seconds { IsMoment seconds }
+        requires ahead { IsWithin 10_000_000 ahead }
+        ensures { IfSome result (IsStretch (zone_offset self.now.said.items) (zone_moment self.now.said.items)) }
+    {
+        let most = self.onsets.len().saturating_mul(NEAR_OF_EACH);
+        let spans = self.spans_about(seconds, seconds + ahead, most)?;
+        self.stretch_by(&spans, seconds)
+    }
+
+    /// A stretch from a local on, given by its seconds, by these spans. An instant that shows one of its locals is the local less an offset of the
+    /// zone. If none does, the clock skips the local. None if the spans do not tell so much.
+    fn stretch_by(&self, spans: &[Steady], seconds: i64) -> Option<Stretch>
+        requires seconds { IsMoment seconds }
+        requires spans { AreSteady (zone_offset self.now.said.items) spans.now }
+        ensures { IfSome result (IsStretch (zone_offset self.now.said.items) (zone_moment self.now.said.items)) }
+    {
+        let mut stretch = all_from(seconds);
+        let offsets = self.offsets.as_slice();
+        for offset in offsets {
+            if i64::from(*offset) <= stretch.offset {
+                continue;
+            }
+            let span = self.span_near(spans, seconds - i64::from(*offset))?;
+            stretch = narrowed(stretch, *offset, &span);
+        }
+        if stretch.is_empty() || stretch.offset <= NO_OFFSET {
+            return told_gap(spans, seconds);
+        }
+        Some(stretch.as_shown())
+    }
+
+    /// A span over an instant: one of these or, in a zone of few offsets, one that is made for it.
+    fn span_near(&self, spans: &[Steady], at: Moment) -> Option<Steady>
+        requires at { IsSearched at }
+        requires spans { AreSteady (zone_offset self.now.said.items) spans.now }
+        ensures { IfSome result (λ s. IsSteady (zone_offset self.now.said.items) s.from s.next s.offset) }
+    {
+        let span = span_over(spans, at, at);
+        if span.is_none() && self.has_few_offsets() {
+            return Some(self.steady_about(at));
+        }
+        span
     }
 
     /// Holds the spans of the blocks of days that reach from an instant to another, from the first onset of all on.
@@ -497,16 +592,7 @@ impl Observed {
         ensures over { IfSome result (λ s. (s.from ≤ℤ from) × (to <ℤ s.next)) }
         ensures steady { IfSome result (λ s. IsSteady (zone_offset self.now.said.items) s.from s.next s.offset) }
     {
-        let begun = self.held.partition_point(|span| span.from <= from);
-        if begun == 0 {
-            return None;
-        }
-        let steady = self.held[begun - 1];
-        if steady.from <= from && to < steady.next {
-            Some(steady)
-        } else {
-            None
-        }
+        span_over(&self.held, from, to)
     }
 
     /// The instant that a local means, given by its seconds, if the spans within a day of it are held.

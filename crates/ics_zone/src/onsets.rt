@@ -55,7 +55,8 @@ fn size_of(part: BitSet) -> u64 {
     size.max(1)
 }
 
-/// About how many seconds are between two onsets of a rule: a period, divided by the number of times of a day that the rule lists.
+/// About how many seconds are between two onsets of a rule: a period, divided by the number of times of a day that the rule lists if it is daily.
+/// Other rules have their times on few days of a period.
 fn spacing(observance: &Observance) -> u64 {
     let Some(rule) = &observance.rule else {
         return u64::MAX;
@@ -65,15 +66,18 @@ fn spacing(observance: &Observance) -> u64 {
         Frequency::Yearly => 366,
         Frequency::Monthly => 31,
         Frequency::Weekly => 7,
-        _ => 1,
+        _ => return daily_spacing(parts),
     };
+    days.saturating_mul(DAY)
+        .saturating_mul(u64::from(parts.interval))
+}
+
+/// The same of a daily rule.
+fn daily_spacing(parts: &Parts) -> u64 {
     let times = size_of(parts.hours)
         .saturating_mul(size_of(parts.minutes))
         .saturating_mul(size_of(parts.seconds));
-    let period = days
-        .saturating_mul(DAY)
-        .saturating_mul(u64::from(parts.interval));
-    period / times.max(1)
+    DAY.saturating_mul(u64::from(parts.interval)) / times.max(1)
 }
 
 /// Whether a rule goes by years and lists no days but weekdays, as those of most zones do. Such a rule is searched soon, whether or not it

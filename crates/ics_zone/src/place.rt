@@ -4,7 +4,7 @@ ghost use Rattle.jiff_core.specs.Calendar.{IsBetween};
 ghost use Rattle.ics_zone.specs.Seconds.{IsMoment, IsDay};
 ghost use Rattle.ics_fields.specs.Locals.{seconds_at};
 
-use crate::Bounds;
+use crate::{Bounds, Stretch};
 use ics_fields::{Local, Moment};
 
 const DAY: i64 = 86_400;
@@ -16,6 +16,7 @@ pub trait Place {
     ghost use Rattle.std.specs.Prelude.{◌≡◌, ◌-ℤ◌, ℤ};
     ghost use Rattle.ics_zone.specs.Bounds.{HasBounds};
     ghost use Rattle.ics_zone.specs.Seconds.{IsNear};
+    ghost use Rattle.ics_zone.specs.Stretches.{IsStretch};
 
     /// The offset at an instant, in seconds.
     ghost offset_at: { Self → ℤ → ℤ };
@@ -51,6 +52,12 @@ pub trait Place {
     /// Two offsets between which all offsets of the place lie.
     fn bounds(&self) -> Bounds
         ensures { HasBounds (offset_at self.now) (moment_at self.now) result.least result.most };
+
+    /// A stretch of locals about one, given by its seconds, that the place's clock shows, or skips, by one offset. It is made to save questions, and
+    /// may be empty.
+    fn stretch(&self, local: Moment) -> Stretch
+        requires { IsMoment local }
+        ensures { IsStretch (offset_at self.now) (moment_at self.now) result };
 
     /// An offset is less than two days.
     ghost near: { (place : Self) (moment : ℤ) → IsNear (offset_at place moment) };
