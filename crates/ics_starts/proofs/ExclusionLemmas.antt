@@ -1,6 +1,6 @@
 -- Which starts EXDATEs take out.
 use Rattle.std.proofs.Common.{◌≡◌, ℕ, ℤ, ◌+ℤ◌, Bool, true, false, ◌||◌, List, [], ◌∷◌, length, Result, is_ok, refl, sym, ◌∙◌, ap, arith}
-use Rattle.std.proofs.Common.{◌<ℤ◌, not, int_cmp, int_eq}
+use Rattle.std.proofs.Common.{◌<ℤ◌, ◌-ℤ◌, w64, to_z, of_z, not, int_cmp, int_eq}
 use Rattle.std.specs.List.{list_any}
 use Rattle.std.specs.List.Sorted.{IsBinarySearchResult, IsPermutation, IsSearchInRange, IsSorted}
 use Rattle.std.proofs.lemmas.Cmp.{int_cmp_total}
@@ -8,6 +8,7 @@ use Rattle.std.proofs.lemmas.Int.{ints}
 use Rattle.std.proofs.lemmas.List.Folds.{list_any-append}
 use Rattle.std.proofs.lemmas.List.Sorted.{list_any-IsPermutation}
 use Rattle.std.proofs.Math.Bool.{or-false}
+use Rattle.jiff_core.specs.Calendar.{IsWithin}
 use Rattle.ics_values.specs.declared.stamp.Stamp.{Stamp}
 use Rattle.ics_values.specs.declared.stamp.Stamp.TheVariants.{Date}
 use Rattle.ics_event.specs.Event.{Time}
@@ -22,6 +23,11 @@ use Rattle.ics_starts.specs.FileZones.{clocks_in, is_past}
 use Rattle.ics_starts.proofs.InstantLemmas.{instant-near}
 use Rattle.ics_fields.specs.Locals.{whole_days}
 use Rattle.ics_listing.proofs.ListingLemmas.{search-finds}
+
+-- how far two offsets lie apart
+pub apart-back : {least most : ℤ} → IsWithin 93_599 least → IsWithin 93_599 most
+    → to_z w64 (of_z w64 (to_z w64 (of_z w64 most) -ℤ to_z w64 (of_z w64 least))) ≡ most -ℤ least
+apart-back l m = omega (arith, ints, l, m)
 
 -- Whether a search finds a number.
 pub found-in : (xs : List ℤ) (x : ℤ) (r : Result ℕ ℕ) → IsSorted int_cmp xs → IsSearchInRange r (length xs) → IsBinarySearchResult (λ y. int_cmp y x) xs r →

@@ -1,5 +1,6 @@
 pub mod ExclusionLemmas
 pub mod StartSourceLemmas
+pub mod StretchLemmas
 pub mod InstantLemmas
 pub mod CountLemmas
 pub mod MeetsLemmas

@@ -11,6 +11,7 @@ use Rattle.ics_values.specs.declared.time.Rdate.TheVariants.{At}
 use Rattle.ics_listing.specs.FileClocks.{Clocks}
 use Rattle.ics_listing.specs.StartTimes.{time_at}
 use Rattle.ics_listing.specs.StartOrder.{moment_cmp}
+use Rattle.ics_starts.specs.Clocks.{instant}
 use Rattle.ics_starts.specs.Found.{start_at}
 use Rattle.ics_listing.specs.Merged.{by_order, cut, put, union}
 use Rattle.ics_listing.specs.Rising.{IsBefore, Rises}
@@ -23,9 +24,9 @@ use Rattle.ics_listing.proofs.FirstLemmas.{same-moment, tied-moment}
 abbrev started : Time → Local → ℤ → Start
 started first local t = record { moment = t; source = Kept local; given = At (time_at first local) }
 
-pub start-same : (clocks : Clocks) (event : Event) (w : Waiting) {s : Start} → s ≡ start_at clocks event w.local → w.moment ≡ s.moment →
-    start_of event.start w ≡ start_at clocks event w.local
-start-same clocks event w e m = ap (started event.start w.local) (m ∙ ap (λ (x : Start). x.moment) e)
+pub start-same : (clocks : Clocks) (event : Event) (w : Waiting) → w.moment ≡ instant clocks (time_at event.start w.local)
+    → start_of event.start w ≡ start_at clocks event w.local
+start-same clocks event w e = ap (started event.start w.local) e
 
 module _ (first : Time) where
   put-starts : (w : Waiting) (ws : List Waiting) → map (start_of first) (put waiting_cmp w ws) ≡ put moment_cmp (start_of first w) (map (start_of first) ws)

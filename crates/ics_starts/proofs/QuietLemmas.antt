@@ -104,6 +104,13 @@ module _ (s : RuleStarts) where
       beyond-to clocks s.event.now s.rule s.window (number s.from) {place = place_of s.cursor} {now = now} {t = s.beyond} {u = s.beyond} (omega (arith, ints))
       s.past_end (λ n l u by end. let before = early n l u in absurd (omega (arith, ints, before, end)))
 
+  -- and so may those that mean an instant no earlier than what was read
+  pub beyond-past : {now : ℕ} → ((n : ℕ) → place_of s.cursor ≤ n → n < now → s.beyond ≤ℤ moment_numbered clocks s.event.now n)
+      → AreBeyond clocks s.event.now s.rule s.window (number s.from) now s.beyond
+  beyond-past {now = now} late =
+      beyond-to clocks s.event.now s.rule s.window (number s.from) {place = place_of s.cursor} {now = now} {t = s.beyond} {u = s.beyond} (omega (arith, ints))
+      s.past_end (λ n l u by end. late n l u)
+
   -- What is kept from the cursor's place on is not before this local, and so no start before its instant.
   pub quiet-by : (local : Local) {t : ℤ} → NoneKept s.rule (place_of s.cursor) (number local) → IsDayNumber local.day → t ≤ℤ s.beyond
       → t ≤ℤ (settled_by s.event.now.start.stamp s.bounds.most local.day (local_seconds local) +ℤ pos 1)

@@ -1,16 +1,13 @@
 -- Locals at which all is removed may be passed over.
-use Rattle.std.proofs.Common.{◌≡◌, ℕ, ℤ, pos, ◌-ℤ◌, Bool, ◌&&◌, true, false, not, if◌then◌else◌, Some, None, sym, ◌∙◌, ap, subst, refl, arith, int_le}
+use Rattle.std.proofs.Common.{◌≡◌, ℕ, ℤ, pos, ◌-ℤ◌, Bool, ◌&&◌, true, false, not, if◌then◌else◌, Some, None, sym, ◌∙◌, ap, subst, arith, int_le}
 use Rattle.std.proofs.lemmas.Bool.{or_right}
-use Rattle.std.proofs.lemmas.Int.{ints}
 use Rattle.ics_event.specs.declared.event.Event.{Event}
-use Rattle.ics_event.specs.Event.{stamp_seconds}
-use Rattle.ics_fields.specs.Locals.{local_seconds, year_number}
-use Rattle.ics_values.specs.declared.stamp.Stamp.{Stamp}
-use Rattle.ics_values.specs.declared.stamp.Stamp.TheVariants.{Date, Floating, Utc, Zoned}
+use Rattle.ics_fields.specs.Locals.{year_number}
+use Rattle.ics_values.specs.declared.stamp.Stamp.TheVariants.{Date}
 use Rattle.ics_starts.specs.declared.rule_starts.RuleStarts.{RuleStarts}
 use Rattle.ics_starts.specs.declared.series.Series.{Series}
 use Rattle.ics_listing.specs.declared.start.Start.{Start}
-use Rattle.ics_starts.specs.Clocks.{clock_at, clock_by, clock_of, instant}
+use Rattle.ics_starts.specs.Clocks.{clock_of, instant}
 use Rattle.ics_listing.specs.FileClocks.{Clock, Clocks}
 use Rattle.ics_listing.specs.Entry.{Entry}
 use Rattle.ics_starts.specs.Exclusions.{is_among, is_day_in, is_excluded}
@@ -18,27 +15,12 @@ use Rattle.ics_starts.specs.FileZones.{clocks_in}
 use Rattle.ics_starts.specs.Meeting.{entry_from}
 use Rattle.ics_listing.specs.WindowMeeting.{is_met}
 use Rattle.ics_starts.specs.RuleFeed.{IsDayShown}
-use Rattle.ics_starts.specs.RuleStarts.{gives, local_numbered, moment_numbered}
+use Rattle.ics_starts.specs.RuleStarts.{gives, moment_numbered}
 use Rattle.ics_starts.specs.SeriesStarts.{wanted_by}
-use Rattle.ics_listing.specs.StartTimes.{stamp_at, time_of}
+use Rattle.ics_listing.specs.StartTimes.{time_of}
 use Rattle.ics_starts.proofs.PassedLemmas.{own-of, IsTest}
-use Rattle.ics_starts.proofs.RuleDayLemmas.{given-parts, seconds-numbered}
-
--- a local of a date-time is read at its seconds
-moment-read : (clocks : Clocks) (event : Event) → ((day : ℤ) → event.start.stamp ≡ Date day → ⊥) → (n : ℕ)
-    → moment_numbered clocks event n ≡ (clock_of clocks event.start).moment (pos n -ℤ pos (year_number 1_970))
-moment-read clocks event apart n = by event.start.stamp apart
-  where
-    seconds : local_seconds (local_numbered n) ≡ pos n -ℤ pos (year_number 1_970)
-    seconds = omega (arith, ints, seconds-numbered n)
-
-    by : (s : Stamp) → ((day : ℤ) → s ≡ Date day → ⊥)
-        → (clock_by clocks event.start.zone (stamp_at s (local_numbered n))).moment (stamp_seconds (stamp_at s (local_numbered n)))
-        ≡ (clock_by clocks event.start.zone s).moment (pos n -ℤ pos (year_number 1_970))
-    by (Date day) h = absurd (h day refl)
-    by (Floating local) h = ap clocks.display.moment seconds
-    by (Utc local) h = seconds
-    by (Zoned local) h = ap (clock_at clocks.zones event.start.zone).moment seconds
+use Rattle.ics_starts.proofs.RuleDayLemmas.{given-parts}
+use Rattle.ics_starts.proofs.SettledLemmas.{moment-read}
 
 -- A series of date-times.
 module _ (s : Series) (apart : (day : ℤ) → s.event.now.start.stamp ≡ Date day → ⊥) where

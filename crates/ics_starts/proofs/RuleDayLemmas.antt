@@ -83,16 +83,22 @@ module _ (clocks : Clocks) (event : Event) (rule : Recurrence) (w : Window) wher
   unfolding to_come
   rises-to_come held place = rises-union moment_cmp moment_total held (found clocks event rule w place) (rises-found place)
 
-  -- the locals before a bound of which the rule keeps none are read
-  pub come-none : (held : List Start) (place bound : ℕ) → bound ≤ rules_end → NoneKept rule place bound
+  -- the locals before a bound that give nothing are read
+  pub come-skipped : (held : List Start) (place bound : ℕ) → bound ≤ rules_end
+      → ((n : ℕ) → place ≤ n → n < bound → gives clocks event rule w n ≡ false)
       → to_come clocks event rule w held (max place bound) ≡ to_come clocks event rule w held place
   unfolding to_come
-  come-none held place bound h none =
+  come-skipped held place bound h none =
       ⊎_elim
       (λ early. ap (union moment_cmp held)
-      (ap (found clocks event rule w) (omega (arith, early)) ∙ sym (found-skipped place bound (omega (arith, early)) h (λ n a b. unkept n (none n a b)))))
+      (ap (found clocks event rule w) (omega (arith, early)) ∙ sym (found-skipped place bound (omega (arith, early)) h none)))
       (λ past. ap (λ p. union moment_cmp held (found clocks event rule w p)) (omega (arith, past)))
       (cases_lt place bound)
+
+  -- such as those of which the rule keeps none
+  pub come-none : (held : List Start) (place bound : ℕ) → bound ≤ rules_end → NoneKept rule place bound
+      → to_come clocks event rule w held (max place bound) ≡ to_come clocks event rule w held place
+  come-none held place bound h none = come-skipped held place bound h (λ n a b. unkept n (none n a b))
 
   -- the next kept local is read
   pub come-one : (held : List Start) {place bound l : ℕ} → Rises moment_cmp held → bound ≤ rules_end → IsNextKept rule place bound l
@@ -117,7 +123,7 @@ number-day day h = omega (arith, ints, h.0)
 pub seconds-numbered : (n : ℕ) → local_seconds (local_numbered n) ≡ pos n -ℤ pos 62_167_219_200
 seconds-numbered n = omega (arith, ints)
 
-day-written : (s : Stamp) (a : Local) → midnight a.day ≤ℤ stamp_seconds (stamp_at s a)
+pub day-written : (s : Stamp) (a : Local) → midnight a.day ≤ℤ stamp_seconds (stamp_at s a)
 day-written (Date day) a = omega (arith, ints)
 day-written _ a = omega (arith, ints)
 

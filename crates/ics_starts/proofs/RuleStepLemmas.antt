@@ -31,13 +31,14 @@ use Rattle.ics_starts.specs.RuleStarts.{ends_at, found, gives, is_behind, is_rea
 use Rattle.ics_starts.specs.RuleStarts.{IsHeld, IsReadTo}
 use Rattle.ics_listing.specs.StartTimes.{local_of, time_at}
 use Rattle.ics_zone.specs.Observances.{is_until}
+use Rattle.ics_zone.specs.Seconds.{IsMoment}
 use Rattle.ics_starts.specs.FileZones.{clocks_in, IsTimeOf}
 use Rattle.ics_listing.proofs.StartOrderLemmas.{calendar-day, number-seconds, own-day}
 use Rattle.ics_starts.proofs.StartSourceLemmas.{kept-time, numbered-number}
 use Rattle.ics_listing.proofs.NearLemmas.{day-under}
 use Rattle.ics_starts.proofs.RawLemmas.{held-in-days}
 use Rattle.ics_starts.proofs.RuleDayLemmas.{come-none, come-one, early-numbered, found-is, given-parts, late-numbered, less-start, number-day, rises-found}
-use Rattle.ics_starts.proofs.SettledLemmas.{late-settled, off-numbered, off-range}
+use Rattle.ics_starts.proofs.SettledLemmas.{late-stretched, off-numbered, off-range}
 use Rattle.ics_listing.proofs.ListingLemmas.{before-in}
 use Rattle.ics_listing.proofs.UnionLemmas.{union-in}
 use Rattle.ics_listing.proofs.BeginsLemmas.{before-all, put-before, before-union}
@@ -60,6 +61,11 @@ next-back day h = omega (arith, ints, h.0, h.1)
 pub most-back : (most : ℤ) → IsWithin 93_599 most → to_z w64 (of_z w64 most) ≡ most
 most-back most short = omega (arith, ints, short.0, short.1)
 
+-- and an instant with an offset added
+pub sum-back : {t off : ℤ} → IsWithin 1_000_000_000_000 t → IsWithin 93_599 off
+    → to_z w64 (of_z w64 (to_z w64 (of_z w64 t) +ℤ to_z w64 (of_z w64 off))) ≡ t +ℤ off
+sum-back far short = omega (arith, ints, far, short)
+
 -- a local is so many seconds past its day's midnight
 pub midnight-number : (local : Local) → IsDayNumber local.day → number local ≡ midnight_number local.day + local.second
 midnight-number local h = omega (arith, ints, h.0, h.1)
@@ -68,19 +74,19 @@ no-member : (xs : List Start) → ((x : Start) → IsIn x xs → ⊥) → xs ≡
 no-member [] none = refl
 no-member (x ∷ xs) none = absurd (none x (inl refl))
 
-ready-by : (day end : ℤ) (ready : Bool) → (int_lt day end && not ready) ≡ false → day <ℤ end → ready ≡ true
-ready-by day end ready h l = grind (arith, ints)
+module _ (settled day end to : ℤ) where
+  ready-by : (ready : Bool) → ((int_lt day end && int_lt settled (to -ℤ pos 1)) && not ready) ≡ false → day <ℤ end → settled <ℤ (to -ℤ pos 1) → ready ≡ true
+  ready-by ready h l m = grind (arith, ints)
 
-module _ (settled day end : ℤ) where
-  pub behind-early : (held : List Start) → is_behind settled day end held ≡ true → day <ℤ end
-  behind-early held b = int_lt_true day end (and_true {a = int_lt day end} b).0
+  pub behind-early : (held : List Start) → is_behind settled day end to held ≡ true → day <ℤ end
+  behind-early held b = int_lt_true day end (and_true {a = int_lt day end} (and_true {a = int_lt day end && int_lt settled (to -ℤ pos 1)} b).0).0
 
   -- all that is held begins no more than three days before the next day
-  pub next-late : (held : List Start) → (midnight day -ℤ whole_days 2) ≤ℤ settled → Rises moment_cmp held → is_behind settled day end held ≡ true →
+  pub next-late : (held : List Start) → (midnight day -ℤ whole_days 2) ≤ℤ settled → Rises moment_cmp held → is_behind settled day end to held ≡ true →
       (s : Start) → IsIn s held → (midnight (day +ℤ pos 1) -ℤ whole_days 3) ≤ℤ s.moment
   next-late [] l r b s m = absurd m
   next-late (x ∷ held) l r b s m =
-      let first = int_le_false x.moment settled (not-true (is_ready settled (x ∷ held)) (and_true {a = int_lt day end} b).1) in
+      let first = int_le_false x.moment settled (not-true (is_ready settled (x ∷ held)) (and_true {a = int_lt day end && int_lt settled (to -ℤ pos 1)} b).1) in
       ⊎_elim (λ same. rw same (omega (arith, ints, first, l)))
       (λ n. let less = int-less x.moment s.moment (before-in moment_cmp moment_total x s held r.0 n) in omega (arith, ints, first, less, l)) m
 
@@ -166,12 +172,12 @@ module _ (s : RuleStarts) where
   unfolding IsCursorOf
   next-years = (omega (arith, ints, s.reached.low, s.reached.next_on), omega (arith, ints, s.reached.next_read, s.own.inside))
 
-  -- a local after the next one to be read, and no later than the window's end by any offset of the clock's, is of these years
-  pub passed-day : {last day : ℤ} → s.next <ℤ last → last ≤ℤ (s.window.to +ℤ s.bounds.least) → day ≡ day_of_local last → IsDayNumber day
+  -- a local after the next one to be read, and no more than 26 hours later than the window's end, is of these years
+  pub passed-day : {last day : ℤ} → s.next <ℤ last → last ≤ℤ (s.window.to +ℤ pos 93_599) → day ≡ day_of_local last → IsDayNumber day
   passed-day {last = last} {day = day} late early is =
       let under = day-under last day is in (
         omega (arith, ints, under.1, late, next-years),
-        omega (arith, ints, under.0, early, s.window.not_late, s.rule_of.bounded.least_short),
+        omega (arith, ints, under.0, early, s.window.not_late),
       )
 
   -- what is held is no more than the event has in five UTC days
@@ -200,22 +206,32 @@ module _ (s : RuleStarts) where
   found-settled t m =
       let f = found-is s.zones s.event.now s.rule s.window (place_of s.cursor) t m in
       let after =
-      late-settled s.zones s.event.now s.bounds s.rule_of.bounded s.day s.next f.by day-days (omega (arith, s.reached.read, f.from_place))
-      (omega (arith, ints, s.reached.next_read, f.from_place)) in
+      late-stretched s.zones s.event.now s.bounds s.rule_of.bounded s.stretch s.stretched s.day s.next f.by day-days
+      (omega (arith, s.reached.read, f.from_place)) (omega (arith, ints, s.reached.next_read, f.from_place)) in
       omega (arith, ints, after, ap (λ (x : Start). x.moment) f.is)
+
+  -- which is so early that they can still begin before the window's end
+  found-open : (t : Start) → IsIn t unread → settled_in s <ℤ (s.window.to -ℤ pos 1)
+  found-open t m =
+      let f = found-is s.zones s.event.now s.rule s.window (place_of s.cursor) t m in
+      let early = (given-parts s.zones s.event.now s.rule s.window f.by f.given).2 in
+      omega (arith, ints, found-settled t m, early, ap (λ (x : Start). x.moment) f.is)
 
   -- where no local more has to be read the first that is held is the first still to come
   abbrev in_front : List Start → List Start
   in_front [] = []
   in_front (x ∷ xs) = x ∷ left xs
 
-  settled : (held : List Start) → Rises moment_cmp held → is_behind (settled_in s) s.day s.end held ≡ false → left held ≡ in_front held
+  settled : (held : List Start) → Rises moment_cmp held → is_behind (settled_in s) s.day s.end s.window.to held ≡ false → left held ≡ in_front held
   unfolding to_come
-  settled [] r b = no-member unread (λ t m. let no : false ≡ true = ready-by s.day s.end false b (found-late t m).1 in absurd cc)
+  settled [] r b =
+      no-member unread (λ t m. let no : false ≡ true = ready-by (settled_in s) s.day s.end s.window.to false b (found-late t m).1 (found-open t m) in absurd cc)
   settled (x ∷ xs) r b =
       put-before moment_cmp moment_total x (left xs) (before-union moment_cmp moment_total x xs unread r.0
       (before-all moment_cmp x unread (λ t m.
-      let ready = int_le_true x.moment (settled_in s) (ready-by s.day s.end (is_ready (settled_in s) (x ∷ xs)) b (found-late t m).1) in
+      let ready =
+      int_le_true x.moment (settled_in s)
+      (ready-by (settled_in s) s.day s.end s.window.to (is_ready (settled_in s) (x ∷ xs)) b (found-late t m).1 (found-open t m)) in
       less-start x t (omega (arith, ints, found-settled t m, ready)))))
 
   first-of : (held : List Start) → left held ≡ in_front held → slice_get held 0 ≡ slice_get (left held) 0
@@ -312,6 +328,10 @@ module _ (s : RuleStarts) {b : ℤ} (fits : mag b < 2_147_483_648) (later : s.da
       omega (arith, ints, next.0.from_place, s.reached.read, s.reached.low, own.0, a.second_in),
       omega (arith, ints, next.0.in_bound, there, own.0, days.0, a.second_in),
     )
+
+    -- whose clock can be asked for it
+    pub one-moment : IsMoment (local_seconds a)
+    one-moment = (omega (arith, ints, own.0), omega (arith, ints, on-day.1, within, end-soon s, s.window.not_late, a.second_in))
 
     pub one-read : {new : List Start} → AreHeld (clocks_in s.zones) s.event.now s.rule s.window b (held_in s) → new
         ≡ with_held (gives (clocks_in s.zones) s.event.now s.rule s.window (number a)) (start_at (clocks_in s.zones) s.event.now a) (held_in s) →

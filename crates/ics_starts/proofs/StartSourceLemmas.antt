@@ -1,7 +1,7 @@
 -- What gives starts: the values by which it does lie in the years of stamps.
 use Rattle.std.proofs.Common.{◌≡◌, ℕ, ◌<◌, ◌≤◌, ℤ, ◌≤ℤ◌, All, true, ◌⊎◌, ⊎_elim, Option, Some, refl, sym, ◌∙◌, ap, subst, arith, Bool, ◌&&◌, None, inl, inr}
-use Rattle.std.proofs.Common.{w64, to_z, of_z, ◌==◌, int_lt, IfSome, SFits}
-use Rattle.std.proofs.lemmas.Int.{ints, to_z-of_z}
+use Rattle.std.proofs.Common.{◌==◌, int_lt, IfSome}
+use Rattle.std.proofs.lemmas.Int.{ints}
 use Rattle.std.proofs.lemmas.Bool.{cases_lt, eqb-true, eq-eqb, or_left, or_right}
 use Rattle.std.proofs.lemmas.Bool.Decides.{nat_tests}
 use Rattle.ics_fields.specs.Days.{IsDayNumber, IsStampDay}
@@ -29,9 +29,7 @@ use Rattle.ics_starts.specs.Starts.{given_by, given_from, time_by, recurrence_by
 use Rattle.ics_listing.specs.StartTimes.{local_of, time_at, time_of}
 use Rattle.ics_listing.proofs.Cases.{mapped-some, some-same}
 use Rattle.ics_period.proofs.Tests.{or_true}
-use Rattle.ics_listing.specs.declared.start.Start.{Start}
 use Rattle.ics_listing.specs.declared.window.Window.{Window}
-use Rattle.ics_starts.specs.Found.{start_at}
 use Rattle.ics_zone.specs.Observances.{is_until}
 use Rattle.ics_starts.specs.RuleStarts.{gives, lets_until, local_numbered, moment_numbered}
 use Rattle.ics_listing.proofs.StartOrderLemmas.{number-seconds, same-number, own-time, time-at, own-day, calendar-day, same-source, rdate-time, date-time}
@@ -139,11 +137,9 @@ module _ (clocks : Clocks) (event : Event) (rule : Recurrence) (w : Window) (a :
   gives-kept h k = rw (k, numbered-number a h) refl
 
   -- the same of the test that was made, by the instant as it is read back
-  pub gives-by : {s : Start} {b : Bool} → SFits w64 s.moment → s ≡ start_at clocks event a → IsDayNumber a.day → is_kept rule (number a) ≡ true
-      → b ≡ (lets_until rule (number a) (to_z w64 (of_z w64 s.moment)) && int_lt (to_z w64 (of_z w64 s.moment)) w.to) → b ≡ gives clocks event rule w (number a)
-  gives-by {s = s} fits is h k test =
-      let same = to_z-of_z w64 s.moment fits ∙ ap (λ (x : Start). x.moment) is in
-      test ∙ (ap (λ x. lets_until rule (number a) x && int_lt x w.to) same ∙ sym (gives-kept h k))
+  pub gives-by : {t : ℤ} {b : Bool} → t ≡ instant clocks (time_at event.start a) → IsDayNumber a.day → is_kept rule (number a) ≡ true
+      → b ≡ (lets_until rule (number a) t && int_lt t w.to) → b ≡ gives clocks event rule w (number a)
+  gives-by is h k test = test ∙ (ap (λ x. lets_until rule (number a) x && int_lt x w.to) is ∙ sym (gives-kept h k))
 
 -- a local that DTSTART has or a rule keeps lies in the calendar
 pub kept-calendar : (clocks : Clocks) (event : Event) (local : Local) → IsTime event.start → (local ≡ local_of event.start.stamp)

@@ -1,11 +1,13 @@
 -- Instants and locals of times (RFC 5545, sections 3.3.4, 3.3.5 and 3.6.5). A local is counted in seconds from
 -- 1970-01-01T00:00:00, each day having 86,400.
-use Rattle.std.specs.Prelude.{ℕ, ℤ, pos, ◌+ℤ◌, List, map, slice_index_or, Option, Some, None}
+use Rattle.std.specs.Prelude.{ℕ, ℤ, pos, ◌+ℤ◌, ◌&&◌, int_le, int_lt, Bool, List, map, slice_index_or, Option, Some, None}
 use Rattle.ics_values.specs.declared.stamp.Stamp.{Stamp}
 use Rattle.ics_values.specs.declared.stamp.Stamp.TheVariants.{Date, Floating, Utc, Zoned}
 use Rattle.ics_event.specs.Event.{Time}
 use Rattle.ics_zone.specs.Bounds.{HasBounds}
+use Rattle.ics_zone.specs.Stretches.{IsStretch}
 use Rattle.ics_zone.specs.declared.bounds.Bounds.{Bounds}
+use Rattle.ics_zone.specs.declared.stretch.Stretch.{Stretch}
 use Rattle.ics_zone.specs.ZoneSaid.{ZoneSaid, display_said, said_moment, said_offset}
 use Rattle.ics_zone.specs.declared.display.Display.{Display}
 use Rattle.ics_event.specs.Event.{stamp_seconds}
@@ -51,3 +53,11 @@ instant clocks time = (clock_of clocks time).moment (stamp_seconds time.stamp)
 -- a clock stays between these offsets
 abbrev pub IsBounded : Clock → Bounds → Type 0
 IsBounded clock b = HasBounds clock.offset clock.moment b.least b.most
+
+-- a clock shows the locals of a stretch by one offset
+abbrev pub IsStretched : Clock → Stretch → Type 0
+IsStretched clock s = IsStretch clock.offset clock.moment s
+
+-- a local, given by its seconds, is in a stretch
+abbrev pub is_in : Stretch → ℤ → Bool
+is_in s local = int_le s.from local && int_lt local s.to

@@ -1,12 +1,12 @@
 -- What contracts see of the starts of a rule, which are read one by one.
-use Rattle.std.specs.Prelude.{◌≡◌, ◌<◌, ◌≤◌, ◌<ℤ◌, ◌-ℤ◌, ℕ, ℤ, pos, Bool, true, List}
+use Rattle.std.specs.Prelude.{◌≡◌, ◌<◌, ◌≤◌, ◌<ℤ◌, ◌≤ℤ◌, ◌-ℤ◌, ℕ, ℤ, pos, Bool, true, List}
 use Rattle.ics_fields.specs.Locals.{year_number}
 use Rattle.ics_rule.specs.Cursors.{place_of}
 use Rattle.ics_starts.specs.declared.rule_starts.RuleStarts.{RuleStarts}
 use Rattle.ics_listing.specs.declared.start.Start.{Start}
 use Rattle.ics_starts.specs.Clocks.{clock_of}
 use Rattle.ics_starts.specs.Exclusions.{is_day_in}
-use Rattle.ics_starts.specs.RuleStarts.{is_behind, moment_numbered, settled_by, to_come}
+use Rattle.ics_starts.specs.RuleStarts.{is_behind, moment_numbered, read_from, settled_from, to_come}
 use Rattle.ics_starts.specs.FileZones.{clocks_in}
 use Rattle.ics_listing.specs.Waiting.{starts_in}
 
@@ -20,11 +20,11 @@ starts_left s = to_come (clocks_in s.zones) s.event.now s.rule s.window (held_in
 
 -- an instant that is before those of all locals to be read
 abbrev pub settled_in : RuleStarts → ℤ
-settled_in s = settled_by s.event.now.start.stamp s.bounds.most s.day s.next
+settled_in s = settled_from s.stretch s.bounds.most (read_from s.event.now.start.stamp s.day s.next)
 
 -- another local has to be read before the first start still to come is known
 abbrev pub is_unsettled : RuleStarts → Bool
-is_unsettled s = is_behind (settled_in s) s.day s.end (held_in s)
+is_unsettled s = is_behind (settled_in s) s.day s.end s.window.to (held_in s)
 
 -- the starts are those of the same event, in the same zones and window, from the same local on
 pub record HasSameSource (old new : RuleStarts) : Type 0 where
@@ -50,6 +50,11 @@ IsDayShown days s n = is_day_in (clock_of (clocks_in s.zones) s.event.now.start)
 -- the local with this number means an instant before this one
 abbrev pub IsEarlier : ℤ → RuleStarts → ℕ → Type 0
 IsEarlier t s n = moment_numbered (clocks_in s.zones) s.event.now n <ℤ t
+
+-- the local with this number means an instant that is not before either of these
+pub record IsPast (t u : ℤ) (s : RuleStarts) (n : ℕ) : Type 0 where
+  pub first : t ≤ℤ moment_numbered (clocks_in s.zones) s.event.now n
+  pub second : u ≤ℤ moment_numbered (clocks_in s.zones) s.event.now n
 
 abbrev pub HasSkipped : List ℤ → RuleStarts → RuleStarts → Type 0
 HasSkipped days old new = HasPassed (IsDayShown days old) old new

@@ -15,12 +15,13 @@ use Rattle.ics_fields.specs.declared.local.Local.{Local}
 use Rattle.ics_listing.specs.declared.start.Start.{Start}
 use Rattle.ics_listing.specs.declared.window.Window.{Window}
 use Rattle.ics_starts.specs.declared.zones.FileZones.{FileZones}
-use Rattle.ics_starts.specs.Clocks.{clock_of, IsBounded}
+use Rattle.ics_starts.specs.Clocks.{clock_of, IsBounded, IsStretched}
 use Rattle.ics_listing.specs.FileClocks.{Clock, Clocks}
 use Rattle.ics_starts.specs.EventLaws.{time-prop}
 use Rattle.ics_starts.specs.FileZones.{clocks_in, IsTimeOf}
 use Rattle.ics_starts.specs.Leeway.{seconds_off}
 use Rattle.ics_zone.specs.declared.bounds.Bounds.{Bounds}
+use Rattle.ics_zone.specs.declared.stretch.Stretch.{Stretch}
 use Rattle.ics_starts.specs.RuleStarts.{ends_at, AreHeld, HasLookedTo, IsHeld, IsReadTo}
 use Rattle.ics_listing.specs.StartTimes.{local_of}
 use Rattle.ics_starts.specs.Starts.{recurrence_of}
@@ -57,6 +58,9 @@ cursor-prop rule cursor = cursor-in-prop (effective rule) (number rule.start) ru
 
 bounded-prop : (clock : Clock) (b : Bounds) → IsProp (IsBounded clock b)
 bounded-prop clock b = hlevel props
+
+pub stretched-prop : (clock : Clock) (s : Stretch) → IsProp (IsStretched clock s)
+stretched-prop clock s = hlevel props
 
 -- the instant from which on it gives no start
 abbrev pub rule_ends : Event → Window → Recurrence → ℤ

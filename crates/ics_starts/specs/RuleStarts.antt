@@ -1,6 +1,6 @@
 -- The starts that the rule of an event gives before the end of a window, as one rising list.
 use Rattle.std.specs.Prelude.{◌≡◌, ◌≤ℤ◌, ◌<ℤ◌, ℕ, zero, suc, ◌+◌, ◌-◌, ◌≤◌, ℤ, ◌-ℤ◌, ◌+ℤ◌, Bool, true, false, ◌&&◌, ◌||◌, ◌==◌, not, int_le, int_lt, pos}
-use Rattle.std.specs.Prelude.{List, Option, Some, None}
+use Rattle.std.specs.Prelude.{List, Option, Some, None, if◌then◌else◌}
 use Rattle.std.specs.Int.{int_max, int_min}
 use Rattle.std.specs.Prelude.{[], ◌∷◌}
 use Rattle.ics_fields.specs.Days.{day_index, day_numbered}
@@ -19,7 +19,8 @@ use Rattle.ics_listing.specs.declared.start.StartSource.TheVariants.{Kept, Liste
 use Rattle.ics_listing.specs.declared.start.Start.{Start}
 use Rattle.ics_listing.specs.declared.window.Window.{Window}
 use Rattle.ics_listing.specs.FileClocks.{Clocks}
-use Rattle.ics_starts.specs.Clocks.{instant}
+use Rattle.ics_zone.specs.declared.stretch.Stretch.{Stretch}
+use Rattle.ics_starts.specs.Clocks.{instant, is_in}
 use Rattle.ics_listing.specs.StartOrder.{moment_cmp}
 use Rattle.ics_starts.specs.Found.{start_at}
 use Rattle.ics_zone.specs.Observances.{is_until}
@@ -105,14 +106,20 @@ read_from (Zoned first) day next = next
 abbrev pub settled_by : Stamp → ℤ → ℤ → ℤ → ℤ
 settled_by first most day next = read_from first day next -ℤ most -ℤ pos 1
 
+-- An instant that is before those of all locals from one on, where a stretch of locals is known: if the first is in it, those in it mean instants by its
+-- offset, and later ones by no more than the greatest.
+unfoldable pub settled_from : Stretch → ℤ → ℤ → ℤ
+settled_from stretch most local =
+    (if is_in stretch local then int_min (local -ℤ stretch.offset +ℤ most) stretch.to else local) -ℤ most -ℤ pos 1
+
 -- the first start is not after an instant
 abbrev pub is_ready : ℤ → List Start → Bool
 is_ready settled [] = false
 is_ready settled (s ∷ starts) = int_le s.moment settled
 
--- another day has to be read before the first start still to come is known
-abbrev pub is_behind : ℤ → ℤ → ℤ → List Start → Bool
-is_behind settled day end held = int_lt day end && not (is_ready settled held)
+-- another local has to be read before the first start still to come is known: one that is left can be before the window's end, and before what is held
+abbrev pub is_behind : ℤ → ℤ → ℤ → ℤ → List Start → Bool
+is_behind settled day end to held = (int_lt day end && int_lt settled (to -ℤ pos 1)) && not (is_ready settled held)
 
 -- a cursor set at `from` has looked only at periods that hold a local before a day's midnight, from there on or, under COUNT, from DTSTART
 -- on

@@ -13,8 +13,11 @@ use crate::zones::FileZones;
 use ics_event::{Event, Time};
 use ics_listing::{Window, date_of};
 use ics_values::{Local, Moment, Stamp};
-use ics_zone::{Bounds, Place};
+use ics_zone::{Bounds, Place, Stretch};
 use std::alloc::{AllocError, Global};
+
+/// How many removed days are passed over at a time, at most.
+const RUN_DAYS: i32 = 64;
 
 /// The instants that the EXDATEs of an event remove and, if the event has date-times, the days that
 /// they remove by the clock of DTSTART. Both are in order.
@@ -27,11 +30,11 @@ pub(crate) struct Exclusions {
 }
 
 impl Exclusions {
-    ghost use Rattle.std.specs.Prelude.{true, MatchOption};
+    ghost use Rattle.std.specs.Prelude.{true};
     ghost use Rattle.jiff_core.specs.Calendar.{IsBetween, IsWithin};
     ghost use Rattle.ics_fields.specs.Locals.{year_seconds};
     ghost use Rattle.ics_listing.specs.FileClocks.{Clock};
-    ghost use Rattle.ics_starts.specs.Clocks.{IsBounded};
+    ghost use Rattle.ics_starts.specs.Clocks.{IsBounded, IsStretched};
     ghost use Rattle.ics_starts.specs.Exclusions.{is_day_in, AreExclusions};
     ghost use Rattle.ics_starts.specs.FileZones.{IsOwnEvent};
 
@@ -77,33 +80,76 @@ impl Exclusions {
         if self.days.is_empty() {
             return false;
         }
-        let day = shown_day(zones, first, moment);
+        self.has_day(shown_day(zones, first, moment))
+    }
+
+    /// Whether a day is removed.
+    fn has_day(&self, day: i32) -> bool
+        ensures { result ≡ is_among self.now.days.items day }
+    {
         self.days.binary_search(&day).is_ok()
     }
 
-    /// The end, in seconds, of the locals from one on at which the clock shows a removed day whatever offset between these two it has. None if
-    /// there are no such locals.
-    pub(crate) fn skips(&self, next: Moment, bounds: Bounds) -> Option<Moment>
+    /// The midnight, in seconds, that ends the removed days from that of a local on: those that follow one another, at most so many. If the
+    /// local's day is not removed, it is the one that begins this.
+    fn run_end(&self, local: Moment) -> Moment
+        requires { IsWithin 1_000_000_000_000 local }
+        ensures removed { (other : ℤ) → local ≤ℤ other → other <ℤ result → is_among self.now.days.items (day_of_local other) ≡ true }
+        ensures near { IsWithin 1_000_010_000_000 result }
+    {
+        let first = Local::of_seconds(local).day;
+        let last = first + RUN_DAYS;
+        let mut day = first;
+        while day < last && self.has_day(day) {
+            day += 1;
+        }
+        Local::at(day, 0).seconds()
+    }
+
+    /// The end of the locals from one on at which a clock shows a removed day whatever offset between these two it has.
+    fn skips_by(&self, next: Moment, bounds: Bounds) -> Moment
         requires next { IsBetween (year_seconds 0) (year_seconds 10_000) next }
         requires least { IsWithin 93_599 bounds.least }
         requires most { IsWithin 93_599 bounds.most }
-        ensures { MatchOption result (Unit {0}) (λ to. (clock : Clock) → IsBounded clock bounds → (local : ℤ) → next ≤ℤ local → local <ℤ to
-            → is_day_in clock self.now.days.items (clock.moment local) ≡ true) }
+        ensures { (clock : Clock) → IsBounded clock bounds → (local : ℤ) → next ≤ℤ local → local <ℤ result
+            → is_day_in clock self.now.days.items (clock.moment local) ≡ true }
+    {
+        let apart = bounds.most - bounds.least;
+        self.run_end(next - apart) - apart
+    }
+
+    /// The end of the locals from one on at which a clock shows a removed day in a stretch: it shows each of them at its own instant, unless it
+    /// skips them.
+    fn skips_in(&self, next: Moment, stretch: Stretch) -> Moment
+        requires next { IsBetween (year_seconds 0) (year_seconds 10_000) next }
+        requires offset { IsWithin 93_599 stretch.offset }
+        requires shown { IsWithin 93_599 stretch.shown }
+        ensures { (clock : Clock) → IsStretched clock stretch → (local : ℤ) → next ≤ℤ local → local <ℤ result
+            → is_day_in clock self.now.days.items (clock.moment local) ≡ true }
+    {
+        if next < stretch.from {
+            return next;
+        }
+        let moved = stretch.shown - stretch.offset;
+        stretch.to.min(self.run_end(next + moved) - moved)
+    }
+
+    /// The end, in seconds, of the locals from one on at which the clock shows a removed day. It stays between two offsets, and has one at the
+    /// instants of a stretch.
+    pub(crate) fn skips(&self, next: Moment, bounds: Bounds, stretch: Stretch) -> Moment
+        requires next { IsBetween (year_seconds 0) (year_seconds 10_000) next }
+        requires least { IsWithin 93_599 bounds.least }
+        requires most { IsWithin 93_599 bounds.most }
+        requires offset { IsWithin 93_599 stretch.offset }
+        requires shown { IsWithin 93_599 stretch.shown }
+        ensures { (clock : Clock) → IsBounded clock bounds → IsStretched clock stretch → (local : ℤ) → next ≤ℤ local → local <ℤ result
+            → is_day_in clock self.now.days.items (clock.moment local) ≡ true }
     {
         if self.days.is_empty() {
-            return None;
+            return next;
         }
-        let local = Local::of_seconds(next);
-        let second = i64::from(local.second);
-        let apart = bounds.most - bounds.least;
-        if second < apart {
-            return None;
-        }
-        let left = 86_400 - second - apart;
-        match self.days.binary_search(&local.day) {
-            Ok(_) => Some(next + left),
-            Err(_) => None,
-        }
+        let shown = self.skips_in(next, stretch);
+        shown.max(self.skips_by(next, bounds))
     }
 }
 

@@ -1,6 +1,8 @@
 //! The instants of times.
 ghost use Rattle.std.specs.Prelude.{◌≡◌, ◌≤ℤ◌, ◌-ℤ◌, pos};
-ghost use Rattle.ics_starts.specs.Clocks.{clock_of, instant, IsBounded};
+ghost use Rattle.ics_zone.specs.Seconds.{IsMoment};
+ghost use Rattle.ics_starts.specs.Clocks.{clock_of, instant, is_in, IsBounded, IsStretched};
+ghost use Rattle.ics_listing.specs.FileClocks.{Clock};
 ghost use Rattle.ics_starts.specs.FileZones.{clocks_in, is_past, IsTimeOf};
 ghost use Rattle.ics_starts.specs.Leeway.{seconds_off};
 
@@ -8,7 +10,7 @@ use crate::zones::FileZones;
 use ics_event::Time;
 use ics_listing::{Window, local_of};
 use ics_values::{Local, Moment, Stamp};
-use ics_zone::{Bounds, Place};
+use ics_zone::{Bounds, Place, Stretch};
 
 /// The instant of a time. A date, as its midnight, and a floating local are read in the display zone, a
 /// zoned local in its own zone (RFC 5545, section 3.3.5). The time is in the years of stamps, and has no
@@ -37,6 +39,58 @@ pub(crate) fn bounds(zones: FileZones<'_>, time: Time) -> Bounds
         Stamp::Utc(_) => Bounds { least: 0, most: 0 },
         Stamp::Zoned(_) => zones.zone_of(time).bounds(),
     }
+}
+
+/// A stretch of locals about one, given by its seconds, that the clock of a time shows by one offset. There is none for a date: of its days no
+/// local but midnight counts.
+pub(crate) fn stretch(zones: FileZones<'_>, time: Time, local: Moment) -> Stretch
+    requires time { IsTimeOf zones.zones.now time }
+    requires local { IsMoment local }
+    ensures { IsStretched (clock_of (clocks_in zones.entry) time) result }
+{
+    match time.stamp {
+        Stamp::Date(_) => Stretch::none(),
+        Stamp::Floating(_) => zones.display.stretch(local),
+        Stamp::Utc(_) => Stretch {
+            from: Moment::MIN,
+            to: Moment::MAX,
+            offset: 0,
+            shown: 0,
+        },
+        Stamp::Zoned(_) => zones.zone_of(time).stretch(local),
+    }
+}
+
+/// A stretch of no local. It ends at one, given by its seconds.
+pub(crate) fn no_stretch(to: Moment) -> Stretch
+    ensures { (clock : Clock) → IsStretched clock result }
+{
+    Stretch {
+        from: to,
+        to,
+        offset: 0,
+        shown: 0,
+    }
+}
+
+/// Whether a local, given by its seconds, is in a stretch.
+pub(crate) fn is_in(stretch: Stretch, local: Moment) -> bool
+    ensures { result ≡ is_in stretch local }
+{
+    (stretch.from <= local) & (local < stretch.to)
+}
+
+/// The instant of a time, where a stretch of its clock's locals is known. The clock is not asked for a local in the stretch.
+pub(crate) fn instant_in(zones: FileZones<'_>, stretch: Stretch, time: Time) -> Moment
+    requires stretch { IsStretched (clock_of (clocks_in zones) time) stretch }
+    requires time { IsTimeOf zones.zones.now time }
+    ensures { result ≡ instant (clocks_in zones.entry) time }
+{
+    let local = local_of(time.stamp).seconds();
+    if is_in(stretch, local) {
+        return local - stretch.offset;
+    }
+    instant(zones, time)
 }
 
 /// Whether the local of a time is two days or more past the window's end. If so, the time is after that

@@ -1,36 +1,45 @@
 //! The starts that the rule of an event gives, read one UTC day at a time.
-ghost use Rattle.std.specs.Prelude.{◌≡◌, ◌≤◌, ◌<ℤ◌, ◌≤ℤ◌, ◌+ℤ◌, ◌&&◌, pos, true, int_lt, IfOk, OnErr, OnOk, Some};
+ghost use Rattle.std.specs.Prelude.{◌≡◌, ◌≤◌, ◌<ℤ◌, ◌≤ℤ◌, ◌+ℤ◌, ◌&&◌, ℤ, pos, true, int_lt, IfOk, OnErr, OnOk, Some};
 ghost use Rattle.jiff_core.specs.Calendar.{IsBetween, IsWithin};
 ghost use Rattle.ics_fields.specs.Days.{IsDayNumber};
 ghost use Rattle.ics_rule.specs.Cursors.{place_of, IsCursorOf};
 ghost use Rattle.ics_rule.specs.Kept.{is_kept};
 ghost use Rattle.ics_fields.specs.Locals.{number, year_number, year_seconds};
+ghost use Rattle.ics_zone.specs.Seconds.{IsMoment};
 ghost use Rattle.ics_listing.specs.StartOrder.{moment_cmp};
+ghost use Rattle.ics_listing.specs.FileClocks.{Clock, Clocks};
 ghost use Rattle.ics_starts.specs.Found.{start_at};
 ghost use Rattle.ics_starts.specs.RuleMarks.{IsBegun};
 ghost use Rattle.ics_starts.specs.Quiet.{beyond-prop, AreBeyond};
 ghost use Rattle.ics_listing.specs.Rising.{Rises, Rises-prop};
-ghost use Rattle.ics_starts.specs.Clocks.{instant};
-ghost use Rattle.ics_starts.specs.RuleStarts.{gives, lets_until, midnight_number, settled_by, with_held, AreHeld, HasLookedTo, IsReadTo};
-ghost use Rattle.ics_starts.specs.RuleStartLaws.{cursor-prop, held-prop, looked-prop, read-to-prop, rule-of-prop, IsRuleOf};
+ghost use Rattle.ics_starts.specs.Clocks.{clock_of, instant, IsStretched};
+ghost use Rattle.ics_starts.specs.RuleStarts.{gives, lets_until, midnight_number, read_from, settled_by, settled_from, with_held};
+ghost use Rattle.ics_starts.specs.RuleStarts.{AreHeld, HasLookedTo, IsReadTo};
+ghost use Rattle.ics_starts.specs.RuleStartLaws.{cursor-prop, held-prop, looked-prop, read-to-prop, rule-of-prop, stretched-prop, IsRuleOf};
 ghost use Rattle.ics_listing.specs.StartTimes.{local_of, time_at};
 ghost use Rattle.ics_starts.specs.Starts.{recurrence_of};
-ghost use Rattle.ics_starts.specs.FileZones.{clocks_in, IsTimeOf};
+ghost use Rattle.ics_starts.specs.FileZones.{clocks_in};
 ghost use Rattle.ics_listing.specs.Waiting.{starts_in};
 ghost use Rattle.ics_period.specs.PeriodNumbers.{rules_end};
 
 use crate::exclusion::Exclusions;
-use crate::instants::bounds;
+use crate::instants::{bounds, instant_in, is_in, no_stretch, stretch};
 use crate::listed::lesser_past;
 use crate::mark::{Mark, begun};
-use crate::starts::{end_nearby, is_until, start_at};
+use crate::starts::{end_nearby, is_until};
 use crate::zones::FileZones;
 use ics_event::Event;
-use ics_listing::{Queue, Start, Waiting, Window, local_of};
+use ics_listing::{Queue, Start, Waiting, Window, local_of, time_at};
 use ics_rule::{Cursor, Rule};
 use ics_values::{Local, Moment, Stamp};
-use ics_zone::Bounds;
+use ics_zone::{Bounds, Stretch};
 use std::alloc::{AllocError, Global};
+
+/// Kept locals that are nearer to one another than these seconds are worth a stretch.
+const CLOSE: i64 = 3_600;
+
+/// How many seconds pass before the clock is asked anew, where it tells no stretch.
+const MINUTE: i64 = 60;
 
 /// The starts that a rule gives before a window's end. All locals before the midnight of `day` have
 /// been read, and so have those whose seconds are before `next`. Those of their starts that were not
@@ -52,6 +61,8 @@ pub(crate) struct RuleStarts<'a> {
     /// No local from this day on gives a start.
     end: i32,
     next: Moment,
+    /// A stretch of locals that the clock of DTSTART shows by one offset.
+    stretch: Stretch,
     held: Queue,
     /// None of the locals read so far that are at the window's end or later is before this instant.
     beyond: Moment,
@@ -61,6 +72,8 @@ pub(crate) struct RuleStarts<'a> {
         window asked (starts_in event.now.start held) },
     ghost past_end: { AreBeyond (clocks_in zones) event.now rule window (number from) (place_of cursor) beyond } by { beyond-prop (clocks_in zones)
         event.now rule window (number from) (place_of cursor) beyond },
+    ghost stretched: { IsStretched (clock_of (clocks_in zones) event.now.start) stretch } by { stretched-prop (clock_of (clocks_in zones) event.now.start)
+        stretch },
     ghost own: { IsCursorOf rule cursor } by { cursor-prop rule cursor },
     ghost looked: { HasLookedTo rule from asked cursor } by { looked-prop rule from asked cursor },
     ghost reached: { IsReadTo day asked end next (place_of cursor) } by { read-to-prop day asked end next (place_of cursor) },
@@ -80,37 +93,39 @@ fn is_let_through(rule: &Rule, window: Window, first: Local, local: Local, momen
     (first | until) & early
 }
 
-/// Holds the start that a kept local gives, unless one at its instant is held already. The instant of the
-/// local.
+/// Holds the start that a kept local gives, unless one at its instant is held already.
 fn hold(
     held: &mut Queue,
-    zones: FileZones<'_>,
     event: &Event,
     rule: &Rule,
     window: Window,
-    local: Local,
-) -> Result<Moment, AllocError>
+    waiting: Waiting,
+) -> Result<(), AllocError>
     requires rises { Rises moment_cmp (starts_in event.now.start held.old) }
-    requires time { IsTimeOf zones.zones.now (time_at event.now.start local) }
-    requires kept { is_kept rule.now (number local) ≡ true }
-    requires day { IsDayNumber local.day }
+    requires kept { is_kept rule.now (number waiting.local) ≡ true }
+    requires day { IsDayNumber waiting.local.day }
     requires first { number rule.now.start ≡ number (local_of event.now.start.stamp) }
-    ensures held { OnOk result (starts_in event.entry.now.start held.new
-        ≡ with_held (gives (clocks_in zones.entry) event.entry.now rule.entry.now window (number local))
-        (start_at (clocks_in zones.entry) event.entry.now local) (starts_in event.entry.now.start held.old)) }
-    ensures moment { IfOk result (λ moment. moment ≡ instant (clocks_in zones.entry) (time_at event.entry.now.start local)) }
+    ensures held { OnOk result ((clocks : Clocks) → waiting.moment ≡ instant clocks (time_at event.entry.now.start waiting.local)
+        → starts_in event.entry.now.start held.new ≡ with_held (gives clocks event.entry.now rule.entry.now window (number waiting.local))
+        (start_at clocks event.entry.now waiting.local) (starts_in event.entry.now.start held.old)) }
     ensures same { OnErr result (starts_in event.entry.now.start held.new ≡ starts_in event.entry.now.start held.old) }
 {
-    let start = start_at(zones, event, local);
     let first = local_of(event.start.stamp);
-    if !is_let_through(rule, window, first, local, start.moment) {
-        return Ok(start.moment);
+    if is_let_through(rule, window, first, waiting.local, waiting.moment) {
+        held.put(waiting)?;
     }
-    held.put(Waiting {
-        moment: start.moment,
-        local,
-    })?;
-    Ok(start.moment)
+    Ok(())
+}
+
+/// The seconds of the first local that can be read, of those of a day and later ones of which none is before one in seconds. A date is read at its
+/// midnight.
+fn read_from(start: Stamp, day: i32, next: Moment) -> Moment
+    ensures { result ≡ read_from start day next }
+{
+    match start {
+        Stamp::Date(_) => Local::at(day, 0).seconds(),
+        _ => next,
+    }
 }
 
 /// An instant that is before those of all locals of a day and later ones, of which none is before one in
@@ -126,12 +141,56 @@ fn settled_by(start: Stamp, most: i64, day: i32, next: Moment) -> Moment
     }
 }
 
+/// The end, in seconds, of the locals from one on that a stretch shows at instants before another. If the first is before the stretch, there is
+/// none.
+fn shown_before(stretch: Stretch, next: Moment, moment: Moment) -> Moment
+    requires moment { IsWithin 1_000_000_000_000 moment }
+    requires short { IsWithin 93_599 stretch.offset }
+    ensures early { (clock : Clock) → IsStretched clock stretch → (local : ℤ) → next ≤ℤ local → local <ℤ result → clock.moment local <ℤ moment }
+    ensures near { result ≤ℤ (moment +ℤ pos 93_599) }
+{
+    if next < stretch.from {
+        return Moment::MIN;
+    }
+    stretch.to.min(moment + stretch.offset)
+}
+
+/// An instant that is before those of all locals from one on, of which a stretch is known, on a clock that is at most so many seconds ahead of UTC.
+fn settled_from(stretch: Stretch, most: i64, local: Moment) -> Moment
+    requires most { IsWithin 93_599 most }
+    requires short { IsWithin 93_599 stretch.offset }
+    requires local { IsBetween (year_seconds 0) (year_seconds 10_000) local }
+    ensures { result ≡ settled_from stretch most local }
+{
+    if is_in(stretch, local) {
+        let reached = (local - stretch.offset + most).min(stretch.to);
+        return reached - most - 1;
+    }
+    local - most - 1
+}
+
+/// The end, in seconds, of the locals from one on that a stretch shows at an instant or later.
+fn shown_from(stretch: Stretch, next: Moment, moment: Moment) -> Moment
+    requires next { IsBetween (year_seconds 0) (year_seconds 10_000) next }
+    requires short { IsWithin 93_599 stretch.offset }
+    ensures { (clock : Clock) → IsStretched clock stretch → (local : ℤ) → next ≤ℤ local → local <ℤ result → moment ≤ℤ clock.moment local }
+{
+    if next < stretch.from {
+        return next;
+    }
+    let means = next - stretch.offset;
+    if means < moment {
+        return next;
+    }
+    stretch.to
+}
+
 impl<'a> RuleStarts<'a> {
     ghost use Rattle.std.specs.Prelude.{◌≡◌, ◌+◌, ◌-◌, ◌<◌, ◌≤ℤ◌, ℕ, false, length, slice_get, IfOk, MatchOption, OnOk, Some};
     ghost use Rattle.ics_rule.specs.Cursors.{steps_of};
     ghost use Rattle.ics_listing.specs.Listing.{IsIn};
     ghost use Rattle.ics_listing.specs.Merged.{cut};
-    ghost use Rattle.ics_starts.specs.RuleFeed.{held_in, is_unsettled, settled_in, starts_left, HasEnded, HasSameSource, HasSkipped};
+    ghost use Rattle.ics_starts.specs.RuleFeed.{held_in, is_unsettled, settled_in, starts_left, HasEnded, HasSameSource, HasSkipped, IsEarlier, IsPast};
     ghost use Rattle.ics_starts.specs.RuleStarts.{found, is_ready, steps_left, to_come};
     ghost use Rattle.ics_starts.specs.FileZones.{IsOwnEvent};
     ghost use Rattle.ics_starts.specs.RuleMarks.{IsCountMark};
@@ -176,6 +235,7 @@ impl<'a> RuleStarts<'a> {
             asked: day,
             end,
             next,
+            stretch: no_stretch(next),
             held: Queue::new(alloc),
             beyond: Moment::MAX,
         }
@@ -197,16 +257,17 @@ impl<'a> RuleStarts<'a> {
         ensures { result ≡ settled_in self.now }
     {
         let event = self.event;
-        settled_by(event.start.stamp, self.bounds.most, self.day, self.next)
+        let first = read_from(event.start.stamp, self.day, self.next);
+        settled_from(self.stretch, self.bounds.most, first)
     }
 
-    /// Whether the first held start is before all starts that later locals give.
-    fn is_ready(&self) -> bool
-        ensures { result ≡ is_ready (settled_in self.now) (held_in self.now) }
+    /// Whether the first held start is not after an instant.
+    fn is_ready(&self, settled: Moment) -> bool
+        ensures { result ≡ is_ready settled (held_in self.now) }
     {
         match self.held.first() {
             None => false,
-            Some(first) => first.moment <= self.settled(),
+            Some(first) => first.moment <= settled,
         }
     }
 
@@ -214,7 +275,10 @@ impl<'a> RuleStarts<'a> {
     fn is_behind(&self) -> bool
         ensures { result ≡ is_unsettled self.now }
     {
-        self.day < self.end && !self.is_ready()
+        let settled = self.settled();
+        // What is left can still be before the window's end.
+        let is_open = (self.day < self.end) & (settled < self.window.to - 1);
+        is_open && !self.is_ready(settled)
     }
 
     /// The day up to which the cursor searches next: the end if nothing is held, else the next day. What is
@@ -229,6 +293,25 @@ impl<'a> RuleStarts<'a> {
             self.end
         } else {
             self.day + 1
+        }
+    }
+
+    /// A stretch by which a local that the rule keeps next, given by its seconds, is read: the known one or, where kept locals past it follow each
+    /// other closely on one day, another.
+    fn stretch_at(&self, local: Moment) -> Stretch
+        requires { IsMoment local }
+        ensures { IsStretched (clock_of (clocks_in self.now.zones) self.now.event.now.start) result }
+    {
+        let is_close = self.day < self.asked && local < self.next + CLOSE;
+        if !is_close || local < self.stretch.to {
+            return self.stretch;
+        }
+        let event = self.event;
+        let stretch = stretch(self.zones, event.start, local);
+        if is_in(stretch, local) {
+            stretch
+        } else {
+            no_stretch(local + MINUTE)
         }
     }
 
@@ -255,14 +338,12 @@ impl<'a> RuleStarts<'a> {
             }
             Some(local) => {
                 let seconds = local.seconds();
-                let moment = hold(
-                    &mut self.held,
-                    self.zones,
-                    self.event,
-                    &self.rule,
-                    self.window,
-                    local,
-                )?;
+                self.stretch = self.stretch_at(seconds);
+                let event = self.event;
+                let time = time_at(event.start, local);
+                let moment = instant_in(self.zones, self.stretch, time);
+                let waiting = Waiting { moment, local };
+                hold(&mut self.held, event, &self.rule, self.window, waiting)?;
                 self.cursor = cursor;
                 self.day = local.day;
                 self.asked = local.day + 1;
@@ -270,6 +351,37 @@ impl<'a> RuleStarts<'a> {
                 self.beyond = lesser_past(self.window.to, self.beyond, moment);
                 Ok(())
             }
+        }
+    }
+
+    /// The end, in seconds, of the next locals that mean instants at the window's end or later, and no earlier than `beyond`.
+    fn past_end(&self) -> Moment
+        ensures { (n : ℕ) → place_of self.now.cursor ≤ n → pos n <ℤ (result +ℤ pos (year_number 1_970))
+            → IsPast self.now.window.to self.now.beyond self.now n }
+    {
+        let event = self.event;
+        match event.start.stamp {
+            Stamp::Date(_) => self.next,
+            _ => shown_from(self.stretch, self.next, self.window.to.max(self.beyond)),
+        }
+    }
+
+    /// Passes over the next locals that give nothing, since they are past the window's end, and of which `beyond` knows enough.
+    fn pass_end(&mut self)
+        ensures same { starts_left self.new ≡ starts_left self.old }
+        ensures source { HasSameSource self.old self.new }
+        ensures less { steps_left self.new.day self.new.end (place_of self.new.cursor)
+            ≤ steps_left self.old.day self.old.end (place_of self.old.cursor) }
+    {
+        if self.stretch.to <= self.next {
+            return;
+        }
+        let end = Local::at(self.end, 0).seconds();
+        let past = self.past_end();
+        let last = past.min(end);
+        if self.next < last {
+            self.cursor.pass(&self.rule, Local::of_seconds(last));
+            self.next = last;
         }
     }
 
@@ -282,6 +394,7 @@ impl<'a> RuleStarts<'a> {
     {
         while self.is_behind() {
             self.read_on()?;
+            self.pass_end();
         }
         Ok(self.first())
     }
@@ -304,8 +417,23 @@ impl<'a> RuleStarts<'a> {
         }
     }
 
-    /// Passes over locals before one in seconds: those that mean an instant before the window's end, whatever offset of the clock's holds. What
-    /// later ones give is known to `beyond` only if they are read.
+    /// The end, in seconds, of the next locals that mean instants before one.
+    fn end_before(&self, moment: Moment) -> Moment
+        requires { IsWithin 1_000_000_000_000 moment }
+        ensures early { (n : ℕ) → place_of self.now.cursor ≤ n → pos n <ℤ (result +ℤ pos (year_number 1_970)) → IsEarlier moment self.now n }
+        ensures near { result ≤ℤ (moment +ℤ pos 93_599) }
+    {
+        let event = self.event;
+        // The instant of a local is not after the local less the least offset.
+        let bounded = moment + self.bounds.least;
+        match event.start.stamp {
+            Stamp::Date(_) => bounded,
+            _ => bounded.max(shown_before(self.stretch, self.next, moment)),
+        }
+    }
+
+    /// Passes over locals before one in seconds: the next ones that mean an instant before the window's end. What later ones give is known to
+    /// `beyond` only if they are read.
     fn pass_to(&mut self, to: Moment)
         ensures left { starts_left self.new ≡ to_come (clocks_in self.old.zones) self.old.event.now self.old.rule self.old.window (held_in self.old)
             (place_of self.new.cursor) }
@@ -313,7 +441,7 @@ impl<'a> RuleStarts<'a> {
         ensures passed { (n : ℕ) → place_of self.old.cursor ≤ n → n < place_of self.new.cursor → pos n <ℤ (to +ℤ pos (year_number 1_970)) }
         ensures source { HasSameSource self.old self.new }
     {
-        let end = self.window.to + self.bounds.least;
+        let end = self.end_before(self.window.to);
         let last = to.min(end);
         if self.next < last {
             self.cursor.pass(&self.rule, Local::of_seconds(last));
@@ -325,21 +453,23 @@ impl<'a> RuleStarts<'a> {
     pub(crate) fn skip(&mut self, exclusions: &Exclusions)
         ensures { HasSkipped exclusions.now.days.items self.old self.new }
     {
-        match exclusions.skips(self.next, self.bounds) {
-            None => {}
-            Some(to) => self.pass_to(to),
+        if !self.is_behind() {
+            return;
         }
+        let to = exclusions.skips(self.next, self.bounds, self.stretch);
+        self.pass_to(to);
     }
 
     /// Passes over the next locals that mean instants before one, up to the window's end. None of them is read.
     pub(crate) fn pass_before(&mut self, moment: Moment)
         ensures { HasEnded moment self.old self.new }
     {
-        let least = self.bounds.least;
-        let to = moment.min(self.window.to);
-        // The instant of a local is not after the local less the least offset.
-        if self.next - least < to {
-            self.pass_to(to + least);
+        let most = self.bounds.most;
+        let before = moment.min(self.window.to);
+        // The instant of a local is not before the local less the greatest offset.
+        if self.next - most < before {
+            let to = self.end_before(before);
+            self.pass_to(to);
         }
     }
 

@@ -1,17 +1,11 @@
-use Rattle.std.proofs.Common.{◌≡◌, ◌∙◌, ap, refl, pos, ◌+ℤ◌, to_z, of_z, w64, arith, int_le}
+use Rattle.std.proofs.Common.{◌≡◌, ◌∙◌, ap, pos, ◌+ℤ◌, to_z, of_z, w64, arith, int_le}
 use Rattle.std.proofs.lemmas.Int.{ints}
 use Rattle.ics_event.specs.Event.{stamp_seconds}
 use Rattle.ics_fields.specs.declared.local.Local.{Local}
 use Rattle.ics_fields.specs.Locals.{local_seconds, whole_days}
-use Rattle.ics_values.specs.declared.stamp.Stamp.{Stamp}
-use Rattle.ics_values.specs.declared.stamp.Stamp.TheVariants.{Date}
-use Rattle.ics_listing.specs.StartTimes.{local_of}
 use Rattle.ics_listing.proofs.Cases.{moment-back}
+use Rattle.ics_starts.proofs.StretchLemmas.{seconds-of}
 use Rattle.ics_starts.proofs.instants.is_past.Goals as goal
-
-seconds-of : (s : Stamp) → local_seconds (local_of s) ≡ stamp_seconds s
-seconds-of (Date day) = omega (arith, ints)
-seconds-of _ = refl
 
 pub returns : goal.returns
 returns c =

@@ -19,8 +19,11 @@ returns-then-len-eq0-clause-held c = λ s m.
 pub returns-else-len-eq0-clause-held : goal.returns-else-len-eq0-clause-held
 returns-else-len-eq0-clause-held c =
     let r = c.args.self.now in
-    let early = behind-early (settled_in r) r.day r.end (held_in r) c.requires in
-    let soon = settled-late r.event.now.start.stamp r.bounds.most r.day r.next r.rule_of.bounded.most_short.1 r.reached.next_on in
+    let early = behind-early (settled_in r) r.day r.end r.window.to (held_in r) c.requires in
+    let soon =
+    settled-late r.stretch r.stretched.short r.event.now.start.stamp r.bounds.most r.day r.next r.rule_of.bounded.most_short.1 r.reached.next_on in
     held-on r.zones r.event.now r.rule r.window r.asked _ (held_in r) (omega (arith, ints, early, r.reached.soon, day-days r, end-days r))
-    (λ s m. let late = next-late (settled_in r) r.day r.end (held_in r) soon r.rises c.requires s m in omega (arith, ints, late, early, day-days r, end-days r))
+    (λ s m.
+    let late = next-late (settled_in r) r.day r.end r.window.to (held_in r) soon r.rises c.requires s m in
+    omega (arith, ints, late, early, day-days r, end-days r))
     r.are

@@ -22,6 +22,7 @@ invariant_of-self c =
       rises = subst (Rises moment_cmp) (sym e) (rises-drop (held_in s) s.rises);
       are = λ t m. s.are t (in-drop t (held_in s) (subst (IsIn t) e m));
       past_end = s.past_end;
+      stretched = s.stretched;
       own = s.own;
       looked = s.looked;
       reached = s.reached;

@@ -1,39 +1,50 @@
-use Rattle.std.proofs.Common.{◌≡◌, ◌+ℤ◌, ◌<ℤ◌, ◌≤ℤ◌, refl, arith, w64, to_z, of_z, SFits}
+use Rattle.std.proofs.Common.{◌≡◌, ◌+ℤ◌, ◌<ℤ◌, ◌≤ℤ◌, pos, refl, arith, w64, to_z, of_z, SFits}
 use Rattle.std.proofs.lemmas.Int.{int_min_is, ints}
 use Rattle.ics_fields.specs.Locals.{local_seconds}
 use Rattle.ics_starts.specs.declared.rule_starts.RuleStarts.{RuleStarts}
 use Rattle.ics_starts.proofs.QuietLemmas.{beyond-passed}
 use Rattle.ics_starts.proofs.RuleStepLemmas.{next-years, passed-day}
-use Rattle.ics_starts.proofs.SettledLemmas.{early-local}
 use Rattle.ics_listing.proofs.StartOrderLemmas.{number-seconds}
 use Rattle.ics_starts.proofs.rule_starts.RuleStarts.pass_to.Goals as goal
 
--- the window's end by the least offset
-end-is : (s : RuleStarts) → to_z w64 (of_z w64 (to_z w64 (of_z w64 s.window.to) +ℤ to_z w64 (of_z w64 s.bounds.least))) ≡ s.window.to +ℤ s.bounds.least
-end-is s = omega (arith, ints, s.window.ordered, s.window.not_early, s.window.not_late, s.rule_of.bounded.least_short)
+-- the window's end, as it is read back
+window-back : (s : RuleStarts) → to_z w64 (of_z w64 s.window.to) ≡ s.window.to
+window-back s = omega (arith, ints, s.window.ordered, s.window.not_early, s.window.not_late)
+
+pub end_before-end-requires : goal.end_before-end-requires
+end_before-end-requires c =
+    let s = c.args.self.now in
+    let w = s.window in (
+      omega (arith, ints, window-back s, w.ordered, w.not_early, w.not_late),
+      omega (arith, ints, window-back s, w.ordered, w.not_early, w.not_late),
+    )
 
 pub of_seconds-requires : goal.of_seconds-requires
 of_seconds-requires c =
     let s = c.args.self.now in
-    let last = c.min-last in (
+    let last = c.min-last in
+    let near = c.end_before-end.ensures.near in (
       omega (arith, ints, int_min_is, last.ensures.value, last.type_inv, c.if-self-last.true, next-years s),
-      omega (arith, ints, int_min_is, last.ensures.value, last.type_inv, end-is s, s.window.not_late, s.rule_of.bounded.least_short),
+      omega (arith, ints, int_min_is, last.ensures.value, last.type_inv, c.end_before-end.type_inv, near, window-back s, s.window.not_late),
     )
 
 pub pass-requires-clause-day : goal.pass-requires-clause-day
 pass-requires-clause-day c =
     let s = c.args.self.now in
     let last = c.min-last in
-    passed-day s (omega (arith, ints, c.if-self-last.true, next-years s)) (omega (arith, ints, int_min_is, last.ensures.value, last.type_inv, end-is s))
-    c.of_seconds.ensures.day
+    let end = c.end_before-end in
+    passed-day s (omega (arith, ints, c.if-self-last.true, next-years s))
+    (omega (arith, ints, int_min_is, last.ensures.value, last.type_inv, end.type_inv, end.ensures.near, window-back s)) c.of_seconds.ensures.day
 
 pub invariant_of-self : goal.invariant_of-self
 invariant_of-self c =
     let s = c.args.self.now in
     let last = c.min-last in
+    let end = c.end_before-end in
     let later : s.next <ℤ to_z w64 (of_z w64 c.min-last.result) = omega (arith, ints, c.if-self-last.true, next-years s) in
-    let early : to_z w64 (of_z w64 c.min-last.result) ≤ℤ (s.window.to +ℤ s.bounds.least) =
-    omega (arith, ints, int_min_is, last.ensures.value, last.type_inv, end-is s) in
+    let before : to_z w64 (of_z w64 c.min-last.result) ≤ℤ c.end_before-end.result =
+    omega (arith, ints, int_min_is, last.ensures.value, last.type_inv, end.type_inv) in
+    let early : to_z w64 (of_z w64 c.min-last.result) ≤ℤ (s.window.to +ℤ pos 93_599) = omega (arith, ints, before, end.ensures.near, window-back s) in
     let day = passed-day s later early c.of_seconds.ensures.day in
     let at = number-seconds c.of_seconds.result day in
     let seconds : local_seconds c.of_seconds.result ≡ to_z w64 (of_z w64 c.min-last.result) = c.of_seconds.ensures.value in
@@ -44,8 +55,9 @@ invariant_of-self c =
       are = s.are;
       past_end = beyond-passed s
           (λ n l u.
-          let moment = early-local s.zones s.event.now s.bounds s.rule_of.bounded n in
-          omega (arith, ints, moment, l, u, place, at, seconds, early));
+          let moment = end.ensures.early n l (omega (arith, ints, l, u, place, at, seconds, before)) in
+          omega (arith, ints, moment, window-back s));
+      stretched = s.stretched;
       own = c.pass.ensures.own;
       looked = λ before m. c.pass.ensures.looked _ before (s.looked before m);
       reached = record {
@@ -64,10 +76,11 @@ pub returns-then-self-last : goal.returns-then-self-last
 returns-then-self-last c =
     let s = c.args.self.now in
     let last = c.min-last in
+    let end = c.end_before-end in
     let to : SFits w64 c.args.to = c.ranges.to in
     let later : s.next <ℤ to_z w64 (of_z w64 c.min-last.result) = omega (arith, ints, c.if-self-last.true, next-years s) in
-    let early : to_z w64 (of_z w64 c.min-last.result) ≤ℤ (s.window.to +ℤ s.bounds.least) =
-    omega (arith, ints, int_min_is, last.ensures.value, last.type_inv, end-is s) in
+    let early : to_z w64 (of_z w64 c.min-last.result) ≤ℤ (s.window.to +ℤ pos 93_599) =
+    omega (arith, ints, int_min_is, last.ensures.value, last.type_inv, end.type_inv, end.ensures.near, window-back s) in
     let before : to_z w64 (of_z w64 c.min-last.result) ≤ℤ c.args.to = omega (arith, ints, int_min_is, last.ensures.value, last.type_inv, to) in
     let at = number-seconds c.of_seconds.result (passed-day s later early c.of_seconds.ensures.day) in
     let seconds : local_seconds c.of_seconds.result ≡ to_z w64 (of_z w64 c.min-last.result) = c.of_seconds.ensures.value in

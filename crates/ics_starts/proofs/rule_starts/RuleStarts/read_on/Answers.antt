@@ -1,13 +1,18 @@
-use Rattle.std.proofs.Common.{◌≡◌, refl, sym, subst, arith, rules, w64, SFits}
+use Rattle.std.proofs.Common.{◌≡◌, ◌∙◌, refl, sym, ap, subst, arith, rules, w64, SFits}
 use Rattle.std.proofs.lemmas.Int.{ints}
+use Rattle.ics_event.specs.Event.{Time}
+use Rattle.ics_event.specs.declared.event.Event.{Event}
 use Rattle.ics_listing.specs.StartOrder.{moment_cmp}
+use Rattle.ics_listing.specs.StartTimes.{time_at}
 use Rattle.ics_listing.specs.Rising.{Rises}
+use Rattle.ics_starts.specs.Clocks.{clock_of, instant, IsStretched}
 use Rattle.ics_starts.specs.RuleStarts.{AreHeld}
-use Rattle.ics_starts.specs.FileZones.{clocks_in}
+use Rattle.ics_starts.specs.FileZones.{clocks_in, IsTimeOf}
 use Rattle.ics_starts.specs.RuleFeed.{held_in}
 use Rattle.ics_listing.specs.Waiting.{starts_in}
 use Rattle.ics_starts.proofs.QuietLemmas.{beyond-none, beyond-one}
-use Rattle.ics_starts.proofs.RuleStepLemmas.{bound-days, bound-early, none-read, one-read, one-time}
+use Rattle.ics_starts.proofs.RuleStepLemmas.{bound-days, bound-early, none-read, one-moment, one-read, one-time}
+use Rattle.ics_starts.proofs.StretchLemmas.{stretched-at}
 use Rattle.ics_starts.proofs.rule_starts.RuleStarts.read_on.Goals as goal
 
 pub invariant_of-self-in-Break-1 : goal.invariant_of-self-in-Break-1
@@ -19,6 +24,7 @@ invariant_of-self-in-Break-1 c =
       rises = subst (Rises moment_cmp) (sym same) s.rises;
       are = subst (AreHeld (clocks_in s.zones) s.event.now s.rule s.window s.asked) (sym same) s.are;
       past_end = s.past_end;
+      stretched = c.stretch_at-self.ensures;
       own = s.own;
       looked = s.looked;
       reached = s.reached;
@@ -45,24 +51,45 @@ invariant_of-self c =
       rises = r.rises;
       are = r.are;
       past_end = beyond-none s c.in-None.ensures.next;
+      stretched = s.stretched;
       own = c.in-None.ensures.own;
       looked = λ before m. c.in-None.ensures.looked _ before (omega (arith, r.before, m)) (s.looked before (omega (arith, r.before, m)));
       reached = r.reached;
       early = s.early;
     }
 
-pub hold-requires-clause-time : goal.hold-requires-clause-time
-hold-requires-clause-time c =
+pub stretch_at-self-requires : goal.stretch_at-self-requires
+stretch_at-self-requires c =
     let b = c.bound-bound in
-    one-time c.args.self.now b.type_inv b.ensures.later b.ensures.within c.at-to.ensures c.in-Some.local c.in-Some.ensures.day c.in-Some.ensures.next
+    let fits : SFits w64 c.seconds-seconds.result = search rules in
+    let years =
+    one-moment c.args.self.now b.type_inv b.ensures.later b.ensures.within c.at-to.ensures c.in-Some.local c.in-Some.ensures.day c.in-Some.ensures.next in
+    (omega (arith, ints, c.seconds-seconds.ensures, years), omega (arith, ints, c.seconds-seconds.ensures, years))
+
+pub instant_in-moment-requires-clause-stretch : goal.instant_in-moment-requires-clause-stretch
+instant_in-moment-requires-clause-stretch c =
+    let s = c.args.self.now in
+    let is = c.time_at-time.ensures ∙ ap (λ (v : Event). time_at v.start c.in-Some.local) c.event.view_is in
+    subst (λ (t : Time). IsStretched (clock_of (clocks_in s.zones) t) c.stretch_at-self.result) (sym is)
+    (stretched-at (clocks_in s.zones) s.event.now.start c.in-Some.local c.stretch_at-self.result c.stretch_at-self.ensures)
+
+pub instant_in-moment-requires-clause-time : goal.instant_in-moment-requires-clause-time
+instant_in-moment-requires-clause-time c =
+    let s = c.args.self.now in
+    let b = c.bound-bound in
+    let is = c.time_at-time.ensures ∙ ap (λ (v : Event). time_at v.start c.in-Some.local) c.event.view_is in
+    subst (λ (t : Time). IsTimeOf s.zones.zones.now t) (sym is)
+    (one-time c.args.self.now b.type_inv b.ensures.later b.ensures.within c.at-to.ensures c.in-Some.local c.in-Some.ensures.day c.in-Some.ensures.next)
 
 pub invariant_of-self-in-Some : goal.invariant_of-self-in-Some
 invariant_of-self-in-Some c =
     let s = c.args.self.now in
     let b = c.bound-bound in
+    let told : SFits w64 c.instant_in-moment.result = search rules in
+    let is = c.time_at-time.ensures ∙ ap (λ (v : Event). time_at v.start c.in-Some.local) c.event.view_is in
+    let moment = c.instant_in-moment.ensures ∙ ap (instant (clocks_in s.zones)) is in
     let r = one-read s b.type_inv b.ensures.later b.ensures.within c.at-to.ensures c.in-Some.local c.in-Some.ensures.day
-    c.in-Some.ensures.next b.ensures.held c.in_ok-moment-in-Some.ensures.held c.seconds-seconds.ensures in
-    let moment = c.in_ok-moment-in-Some.ensures.moment in
+    c.in-Some.ensures.next b.ensures.held (c.in_ok-hold-in-Some.ensures.held (clocks_in s.zones) (omega (arith, ints, moment))) c.seconds-seconds.ensures in
     let fits : SFits w64 c.lesser_past-self.result = search rules in
     record {
       rule_of = s.rule_of;
@@ -70,6 +97,7 @@ invariant_of-self-in-Some c =
       are = r.are;
       past_end = beyond-one s c.in-Some.local c.in-Some.ensures.next c.in-Some.ensures.day (omega (arith, ints, c.lesser_past-self.ensures.first))
           (λ past. let late = c.lesser_past-self.ensures.second (omega (arith, ints, past, moment)) in omega (arith, ints, late, moment));
+      stretched = c.stretch_at-self.ensures;
       own = c.in-Some.ensures.own;
       looked = λ before m. c.in-Some.ensures.looked _ before (omega (arith, r.before, m)) (s.looked before (omega (arith, r.before, m)));
       reached = r.reached;
@@ -83,9 +111,13 @@ returns-in-None c =
     c.seconds-midnight.ensures in
     record { same = r.same; source = record { zones = refl; event = refl; window = refl; rule = refl; from = refl; end = refl }; less = r.less }
 
-pub returns-in_ok-moment-in-Some : goal.returns-in_ok-moment-in-Some
-returns-in_ok-moment-in-Some c =
+pub returns-in_ok-hold-in-Some : goal.returns-in_ok-hold-in-Some
+returns-in_ok-hold-in-Some c =
+    let s = c.args.self.now in
     let b = c.bound-bound in
-    let r = one-read c.args.self.now b.type_inv b.ensures.later b.ensures.within c.at-to.ensures c.in-Some.local c.in-Some.ensures.day
-    c.in-Some.ensures.next b.ensures.held c.in_ok-moment-in-Some.ensures.held c.seconds-seconds.ensures in
+    let told : SFits w64 c.instant_in-moment.result = search rules in
+    let is = c.time_at-time.ensures ∙ ap (λ (v : Event). time_at v.start c.in-Some.local) c.event.view_is in
+    let moment = c.instant_in-moment.ensures ∙ ap (instant (clocks_in s.zones)) is in
+    let r = one-read s b.type_inv b.ensures.later b.ensures.within c.at-to.ensures c.in-Some.local c.in-Some.ensures.day
+    c.in-Some.ensures.next b.ensures.held (c.in_ok-hold-in-Some.ensures.held (clocks_in s.zones) (omega (arith, ints, moment))) c.seconds-seconds.ensures in
     record { same = r.same; source = record { zones = refl; event = refl; window = refl; rule = refl; from = refl; end = refl }; less = r.less }

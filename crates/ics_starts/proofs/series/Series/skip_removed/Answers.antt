@@ -1,6 +1,4 @@
-use Rattle.std.proofs.Common.{◌≡◌, ◌∙◌, refl, sym, ap, subst, ℤ}
-use Rattle.ics_event.specs.declared.event.Event.{Event}
-use Rattle.ics_values.specs.declared.stamp.Stamp.TheVariants.{Date}
+use Rattle.std.proofs.Common.{refl, sym, subst}
 use Rattle.ics_listing.specs.Entry.{entry_cmp}
 use Rattle.ics_starts.specs.FileZones.{clocks_in}
 use Rattle.ics_listing.specs.Rising.{Rises}
@@ -8,11 +6,8 @@ use Rattle.ics_starts.specs.SeriesStarts.{first_of}
 use Rattle.ics_starts.proofs.PassedLemmas.{passed}
 use Rattle.ics_starts.proofs.RemovedLemmas.{removed-test}
 use Rattle.ics_starts.proofs.SeriesLemmas.{own-rule-same}
+use Rattle.ics_starts.proofs.SettledLemmas.{no-date}
 use Rattle.ics_starts.proofs.series.Series.skip_removed.Goals as goal
-
--- the event as it is seen has no date
-no-date : {u v : Event} → u ≡ v → ((day : ℤ) → u.start.stamp ≡ Date day → ⊥) → (day : ℤ) → v.start.stamp ≡ Date day → ⊥
-no-date is none day e = none day (ap (λ (v : Event). v.start.stamp) is ∙ e)
 
 pub invariant_of-self : goal.invariant_of-self
 invariant_of-self c =
