@@ -2,7 +2,7 @@
 ghost use Rattle.std.specs.Prelude.{◌≡◌};
 
 use ics_event::{Event, Length};
-use ics_fields::Until;
+use ics_fields::{Parts, Until};
 use ics_file::FileEvents;
 use ics_listing::{Window, local_of};
 use ics_starts::is_single;
@@ -13,6 +13,9 @@ const DAY: i64 = 86_400;
 
 /// The length of a short window. Most zones keep an offset for longer.
 const SHORT: i64 = 120 * DAY;
+
+/// How long before a window an occurrence can end that is asked for.
+const LATE: i64 = 4 * DAY;
 
 /// Where an event asks for the offsets of its zone: near an instant, if that is before `from`, and from there on up to another.
 #[derive(Clone, Copy)]
@@ -38,16 +41,17 @@ fn prepare_named(file: &mut FileEvents, window: &Window)
     for k in 0..file.events.len() {
         if let Some(index) = file.events[k].start.zone {
             let asked = asked_by(&file.events[k], window);
+            let begun = begun_before(&file.events[k], window);
             if let Some(zone) = file.zones.get_mut(index as usize) {
-                prepare(zone, asked);
+                prepare(zone, asked, begun);
             }
         }
     }
 }
 
-/// Where an event asks in a window. In a short one all that may be listed is near its ends. In a long one an event that starts once asks
-/// near its start, and one that recurs from its start on, if that is not before the window. It also asks near DTSTART if it has DTEND, since
-/// both tell how long each occurrence lasts.
+/// Where an event asks in a window. In a short one all that may be listed is near its ends. In a long one an event that starts once
+/// asks near its start, and one that recurs from its start on, if that is not before the window. It also asks near DTSTART if it has DTEND,
+/// since both tell how long each occurrence lasts.
 fn asked_by(event: &Event, window: &Window) -> Asked {
     let (from, to) = (window.from, window.to);
     if to <= from.saturating_add(SHORT) {
@@ -78,6 +82,28 @@ fn asked_by(event: &Event, window: &Window) -> Asked {
     }
 }
 
+/// Whether a rule can give several starts a day.
+fn is_dense(parts: &Parts) -> bool {
+    parts.frequency.is_finer_than_daily()
+        || !parts.hours.is_empty()
+        || !parts.minutes.is_empty()
+        || !parts.seconds.is_empty()
+}
+
+/// About when an occurrence can begin at first that is asked for in a window, since it lasts so long, by a rule that can give several starts a
+/// day. Of other rules only few are asked for.
+fn begun_before(event: &Event, window: &Window) -> Moment {
+    match (&event.rule, event.length) {
+        (Some(rule), Length::Lasting(length)) if is_dense(rule.parts()) => {
+            let days = i64::try_from(length.days).unwrap_or(i64::MAX);
+            let seconds = i64::try_from(length.seconds).unwrap_or(i64::MAX);
+            let lasting = days.saturating_mul(DAY).saturating_add(seconds);
+            window.from.saturating_sub(lasting).saturating_sub(LATE)
+        }
+        _ => Moment::MAX,
+    }
+}
+
 /// An instant after the starts by a rule with UNTIL: the third midnight after that day. Without UNTIL it is the last instant.
 fn recurs_to(event: &Event) -> Moment {
     let Some(rule) = &event.rule else {
@@ -91,10 +117,14 @@ fn recurs_to(event: &Event) -> Moment {
     (i64::from(day) + 3) * DAY
 }
 
-/// Prepares a zone where it is asked.
-fn prepare(zone: &mut Zone, asked: Asked)
+/// Prepares a zone where it is asked, and near another instant and some days before the first if that is earlier.
+fn prepare(zone: &mut Zone, asked: Asked, begun: Moment)
     ensures { zone.new ≡ zone.old }
 {
+    if begun < asked.near {
+        zone.reach(begun).ok();
+        zone.reach(asked.near.saturating_sub(LATE)).ok();
+    }
     if asked.near < asked.from {
         zone.reach(asked.near).ok();
     }
