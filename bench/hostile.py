@@ -1,10 +1,11 @@
 """Small files that a stranger could send, each with the most that it may cost: so many times a loop that is measured in the same run, and so many MiB."""
+import datetime
 import os
 import resource
 import time
 
 from folders import calendar
-from zones import BERLIN, part, stamps, zone
+from zones import BERLIN, SKIPPED, part, stamps, zone
 
 ODD = ','.join(str(number) for number in range(1, 60, 2))
 MONTHS = ','.join(str(month) for month in range(1, 13))
@@ -109,6 +110,26 @@ def forward(after):
             part('STANDARD', '20240702T000000', after, '+0000')]
 
 
+def swung(*parts):
+    """A time zone whose clock goes two days forward on the second day of the year 0001, or that of these observances."""
+    return zone('odd', *(parts or (part('STANDARD', '00010101T000000', '-2359', '-2359'), part('DAYLIGHT', '00010102T000000', '-2359', '+2359'))))
+
+
+def forth_and_back(frequency, forward, back):
+    """The clock goes two days forward and back, each by a rule since a day of the year 0001."""
+    return [part('DAYLIGHT', '000101' + forward, '-2359', '+2359', 'RRULE:FREQ=' + frequency),
+            part('STANDARD', '000101' + back, '+2359', '-2359', 'RRULE:FREQ=' + frequency)]
+
+
+def periods(count, zoned, *before):
+    """Seconds since the year 0001 and so many PERIODs of a hundred years among them, behind other lines, in the time zone of these lines or in none."""
+    first = datetime.date(1990, 1, 1)
+    at = [(first + datetime.timedelta(days=9_000 * number // count)).strftime('%Y%m%dT000000') for number in range(count)]
+    name = ';TZID=odd' if zoned else ''
+    return calendar([*before, 'BEGIN:VEVENT', 'UID:0@example.org', 'DTSTART%s:00010101T000000' % name, 'RRULE:FREQ=SECONDLY',
+                     'RDATE%s;VALUE=PERIOD:%s' % (name, ','.join(each + '/P36525D' for each in at)), 'END:VEVENT'])
+
+
 def faulty(count):
     """So many events without a start."""
     return calendar([line for number in range(count) for line in ('BEGIN:VEVENT', 'UID:%d' % number, 'END:VEVENT')])
@@ -119,6 +140,8 @@ PAST = 'UNTIL=00010102T000000Z'
 YESTERDAY = 'RRULE:FREQ=SECONDLY;UNTIL=20240602T000000Z'
 ODD_SECONDS = 'FREQ=SECONDLY;INTERVAL=2;BYSECOND=%s;BYMONTH=%s' % (ODD, MONTHS)
 SELDOM = 'FREQ=DAILY;COUNT=4294967295;INTERVAL=1009;BYWEEKNO=1'
+EACH = ','.join(str(number) for number in range(60))
+QUARTER = ['2024-07-01', '92d', '--limit', '1']
 EXCLUDED = 'EXDATE;VALUE=DATE:' + ','.join('2024%02d%02d' % (month, day) for month in (7, 8, 9) for day in range(1, 32 - month // 9))
 FAR = 'RDATE;TZID=odd:' + ','.join('%04d0701T120000' % year for year in range(2100, 8100, 150))
 
@@ -172,6 +195,22 @@ ROWS = [
     ('the same by the zone file of Berlin', lambda: excluded(64, '', since='20200101'), [*DAY, '--zone-file', BERLIN], 8, 24),
     ('92 excluded days by it, limit 1', lambda: rules(1, 'FREQ=SECONDLY', EXCLUDED, end=''),
      ['2024-07-01', '92d', '--limit', '1', '--zone-file', BERLIN], 4, 24),
+    ('the same, each day', lambda: rules(1, 'FREQ=SECONDLY', EXCLUDED, end=''), [*QUARTER, '--every-day', '--zone-file', BERLIN], 1, 32),
+    ('the same by the clock of New York, each day', lambda: rules(1, 'FREQ=SECONDLY', EXCLUDED, end=''), [*QUARTER, '--every-day', *NEW_YORK], 1, 32),
+    ('the same by a clock that skipped a day', lambda: rules(1, 'FREQ=SECONDLY', EXCLUDED, end=''), [*QUARTER, '--zone-file', SKIPPED], 1, 32),
+    ('the same, each day', lambda: rules(1, 'FREQ=SECONDLY', EXCLUDED, end=''),
+     [*QUARTER, '--every-day', '--zone-file', SKIPPED], 1, 32),
+    ('12 rules by a clock that skipped a day', lambda: rules(12, 'FREQ=SECONDLY', end=''),
+     [*DAY, '--every-day', '--limit', '1', '--zone-file', SKIPPED], 4, 32),
+    ('sixty onsets once a year, seconds 36,525 days long',
+     lambda: in_zone([part('STANDARD', '00010101T000000', '+0000', '+0000', 'RRULE:FREQ=YEARLY;BYSECOND=' + EACH)], '00010101T000000', 'RRULE:FREQ=SECONDLY',
+                     LONG), [*DAY, '--limit', '1'], 4, 32),
+    ('200 PERIODs by a clock that skipped two days', lambda: periods(200, True, *swung()), DAY, 4, 32),
+    ('200 PERIODs by a clock that skipped a day', lambda: periods(200, False), [*DAY, '--zone-file', SKIPPED], 4, 32),
+    ('25 PERIODs by a clock that goes forth and back daily', lambda: periods(25, True, *swung(*forth_and_back('DAILY', '01T120000', '01T000000'))), DAY, 4, 32),
+    ('25 PERIODs by a clock that skips two days a week', lambda: periods(25, True, *swung(*forth_and_back('WEEKLY', '04T000000', '01T000000'))), DAY, 4, 32),
+    ('92 days excluded by it, each day',
+     lambda: in_zone(forth_and_back('WEEKLY', '04T000000', '01T000000'), '20240101T000000', 'RRULE:FREQ=SECONDLY', EXCLUDED), [*QUARTER, '--every-day'], 8, 32),
     ('64 rules behind what is listed, limit 1', lambda: excluded(64, '', *once('20240628')),
      ['2024-06-28', '10d', '--limit', '1', *NEW_YORK], 1, 32),
     ('400,000 faulty events, --keep-going', lambda: faulty(400_000), [*DAY, '--keep-going'], 12, 256),

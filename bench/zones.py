@@ -103,6 +103,7 @@ def apart(count):
 HERE = os.path.dirname(os.path.abspath(__file__))
 ZONE_FILES = os.path.join(HERE, 'data', 'zone-files')
 BERLIN = os.path.join(HERE, '..', 'examples', 'zoneinfo', 'Europe', 'Berlin')
+SKIPPED = os.path.join(ZONE_FILES, 'Skipped')
 
 
 def zone_file(name, rule, kinds, changes=()):
@@ -118,6 +119,11 @@ def zone_file(name, rule, kinds, changes=()):
         file.write(before + b'TZif2' + bytes(15) + struct.pack('>6I', 0, 0, 0, len(changes), len(kinds), len(names)) + table + types + names)
         file.write(b'\n' + rule + b'\n')
     return path
+
+
+def skipped_file():
+    """Writes a zone file whose clock once skipped a day, as that of Manila did."""
+    return zone_file('Skipped', b'PST-8', [(-57_360, 0, b'LMT'), (28_800, 0, b'PST')], [(-3_944_621_040, 1)])
 
 
 def zone_files():
