@@ -121,6 +121,11 @@ module _ {A : Type 0} (R : A → A → Ordering) (o : IsTotalOrder R) where
       each [] h = tt
       each (y ∷ ys) h = (h.0, each ys h.1)
 
+  pub rises-sorted : (xs : List A) → Rises R xs → IsSorted R xs
+  rises-sorted xs h = λ k d a b.
+      let less = Less-from_sorted R xs k (k + 1) d (strictly-sorted xs h) (omega arith) b in
+      ap is_lt (o.antisymm (get_or xs (k + 1) d) (get_or xs k d) ∙ ap ordering_reverse less)
+
   -- of two places in a rising list
   pub rises-by_place : (xs : List A) (i j : ℕ) {x y : A} → Rises R xs → slice_get xs i ≡ Some x → slice_get xs j ≡ Some y → R x y ≡ nat_cmp i j
   rises-by_place xs i j {x = x} {y = y} r p q =

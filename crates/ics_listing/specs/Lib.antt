@@ -15,6 +15,7 @@ pub mod FeedSources
 pub mod StartTimes
 pub mod Tokens
 pub mod Waiting
+pub mod WaitingOrder
 pub mod WindowBounds
 pub mod Uids
 pub mod Inner

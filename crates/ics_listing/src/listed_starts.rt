@@ -4,6 +4,7 @@ ghost use Rattle.ics_listing.specs.Rising.{Rises, Rises-prop};
 ghost use Rattle.std.specs.Prelude.{◌≡◌, None, IfOk};
 
 use crate::start::Start;
+use ics_values::Moment;
 use std::alloc::{AllocError, Global};
 
 /// Starts in the order of their instants. Each instant occurs once.
@@ -16,7 +17,8 @@ pub struct ListedStarts {
 }
 
 impl ListedStarts {
-    ghost use Rattle.std.specs.Prelude.{◌≡◌, slice_get, IfOk};
+    ghost use Rattle.std.specs.Prelude.{◌≡◌, ◌≤ℤ◌, slice_get, IfOk};
+    ghost use Rattle.ics_listing.specs.Listing.{IsIn};
     ghost use Rattle.ics_listing.specs.StartOrder.{AreFirsts};
     ghost use Rattle.ics_listing.specs.Merged.{cut};
     ghost use Rattle.ics_listing.specs.KnownStarts.{listed_left};
@@ -35,6 +37,20 @@ impl ListedStarts {
         ensures { result ≡ slice_get (listed_left self.now) 0 }
     {
         self.starts.get(self.gone).copied()
+    }
+
+    /// An instant before which none of the starts still to come is, of those that are not before another.
+    pub fn from(&self, moment: Moment) -> Moment
+        ensures { (start : Start) → IsIn start (listed_left self.now) → moment ≤ℤ start.moment → result ≤ℤ start.moment }
+    {
+        let mut at = self.gone;
+        while at < self.starts.len() && self.starts[at].moment < moment {
+            at += 1;
+        }
+        match self.starts.get(at) {
+            None => Moment::MAX,
+            Some(start) => start.moment,
+        }
     }
 
     /// Drops the first of the starts still to come, if it is at the instant of this one.
