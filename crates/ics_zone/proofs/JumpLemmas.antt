@@ -13,7 +13,7 @@ use Rattle.ics_zone.specs.Observances.{ObservanceSaid}
 use Rattle.ics_zone.specs.ZoneOffsets.{natural, IsOnset, IsInForce, IsBeforeAll, IsOffset, zone_offset, IsNotLater}
 use Rattle.ics_zone.specs.Moments.{shown, IsFirstTime}
 use Rattle.ics_zone.specs.Inner.ZoneOnsets.{HaveOffsets, IsKnown, IsLatest, IsLatestOf, IsFirstOffset, IsNextPast, IsClear, IsJump, IsSteady, IsOverridden}
-use Rattle.ics_zone.specs.Inner.ZoneOnsets.{AreSteady, NoneBetween}
+use Rattle.ics_zone.specs.Inner.ZoneOnsets.{AreSteady, KeepOffset}
 use Rattle.ics_zone.specs.Inner.ZoneBounds.{zone_short}
 use Rattle.ics_zone.specs.Inner.Searches.{natural-is}
 use Rattle.ics_zone.proofs.OnsetLemmas.{offset_found}
@@ -64,20 +64,23 @@ module _ (observances : ZoneObservances) (some : 0 < length observances.said.ite
   before_all_is : (t : ℤ) (p : ObservanceSaid) → IsBeforeAll zone t p → p.offset_from ≡ zone_offset zone t
   before_all_is t p f = offset_unique zone t p.offset_from (zone_offset zone t) (inr (p, f, refl)) (is_offset t)
 
-  -- the greatest onset of all observances begins a span in which its offset holds, up to where the next may be
-  pub steady_since : (t next : ℤ) → ((i : ℕ) (s : ℤ) (p : ObservanceSaid) → IsOnset zone i s p → t <ℤ s → next ≤ℤ s)
-      → (e : Latest) → IsLatest zone t (length zone) e → IsSteady (zone_offset zone) e.at next e.offset
-  steady_since t next none e h u low high = h.offset ∙ in_force_is u h.observance (record {
-    place = e.place;
-    since = e.at;
-    onset = h.onset;
-    not_after = low;
-    greatest = λ i s p g l.
-        let n = none i s p g in let within = slice_get_within zone i p g.0 in let all = h.greatest i s p in grind (arith, ints, less_or_not_z);
-  })
+  -- the greatest onset of all observances begins a span in which its offset holds, up to where the next other offset may begin
+  pub steady_since : (t next : ℤ) (e : Latest) → KeepOffset zone e.offset t next → IsLatest zone t (length zone) e
+      → IsSteady (zone_offset zone) e.at next e.offset
+  steady_since t next e kept h u low high = elim (is_offset u) [
+    | inl x ↦ elim (less_or_not_z t x.1.since) [
+      | inl late ↦ elim (kept x.1.place x.1.since x.0 x.1.onset late) [
+        | inl same ↦ same ∙ sym x.2
+        | inr past ↦ absurd (let now = x.1.not_after in omega (arith, ints))
+      ]
+      | inr early ↦ h.offset ∙ ap (λ p. p.offset_to) (one_onset zone h.onset x.1.onset (x.1.greatest e.place e.at h.observance h.onset low)
+          (h.greatest x.1.place x.1.since x.0 (slice_get_within zone x.1.place x.0 x.1.onset.0) x.1.onset early)) ∙ sym x.2
+    ]
+    | inr x ↦ absurd (let least = x.1.least e.place e.at h.observance h.onset in let before = x.1.before in grind (arith, ints))
+  ]
 
   pub latest_is : (t : ℤ) (e : Latest) → IsLatestOf zone t (length zone) (Some e) → e.offset ≡ zone_offset zone t
-  latest_is t e h = steady_since t (t +ℤ pos 1) (λ i s p g l. omega (arith, ints)) e h t h.not_after (omega (arith, ints))
+  latest_is t e h = steady_since t (t +ℤ pos 1) e (λ i s p g l. inr (omega (arith, ints))) h t h.not_after (omega (arith, ints))
 
   pub none_is : (t offset : ℤ) → IsLatestOf zone t (length zone) None → IsFirstOffset zone offset → offset ≡ zone_offset zone t
   none_is t offset h (at, f) = f.is ∙ before_all_is t f.observance (record {
@@ -88,11 +91,22 @@ module _ (observances : ZoneObservances) (some : 0 < length observances.said.ite
     least = λ i s p g. f.least i s p (slice_get_within zone i p g.0) g;
   })
 
-  -- before all onsets it is one offset, up to where the first may be
-  pub steady_before : (t next from offset : ℤ) → IsLatestOf zone t (length zone) None → NoneBetween zone t next → IsFirstOffset zone offset
+  -- before all onsets it is one offset, up to where the first other may begin
+  pub steady_before : (t next from offset : ℤ) → IsLatestOf zone t (length zone) None → KeepOffset zone offset t next → IsFirstOffset zone offset
       → IsSteady (zone_offset zone) from next offset
-  steady_before t next from offset late none first u low high =
-      none_is u offset (λ i s p l g. let past = late i s p l g in let not_before = none i s p g past in omega (arith, ints)) first
+  steady_before t next from offset none kept first u low high = elim (is_offset u) [
+    | inl x ↦ (
+        let late = none x.1.place x.1.since x.0 (slice_get_within zone x.1.place x.0 x.1.onset.0) x.1.onset in
+        elim (kept x.1.place x.1.since x.0 x.1.onset late) [
+          | inl same ↦ same ∙ sym x.2
+          | inr past ↦ absurd (let now = x.1.not_after in omega (arith, ints))
+        ])
+    | inr x ↦ (
+        let f = first.1 in
+        f.is ∙ ap (λ p. p.offset_from) (one_onset zone f.onset x.1.onset
+        (f.least x.1.place x.1.first x.0 (slice_get_within zone x.1.place x.0 x.1.onset.0) x.1.onset) (x.1.least f.place first.0 f.observance f.onset))
+        ∙ sym x.2)
+  ]
 
   -- each offset of the zone is one of its observances
   pub offsets_found : (offsets : List ℤ) → HaveOffsets offsets zone → (t : ℤ) → Contains offsets (zone_offset zone t)

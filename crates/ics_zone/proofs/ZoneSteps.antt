@@ -1,5 +1,5 @@
 -- The steps of the loops over the observances of a zone.
-use Rattle.std.proofs.Common.{◌≡◌, ℕ, ◌+◌, ◌<◌, ◌≤◌, ◌⊎◌, inl, inr, Bool, ap, ◌∙◌, arith, List, length, get_or, Option, Some}
+use Rattle.std.proofs.Common.{◌≡◌, ℕ, ◌+◌, ◌<◌, ◌≤◌, ◌⊎◌, inl, inr, Bool, sym, ap, ◌∙◌, arith, List, length, get_or, Option, Some}
 use Rattle.std.proofs.Common.{set, length-set, get_or-set_same, get_or-set_other, None, slice_get, ℤ, pos, ◌+ℤ◌, ◌-ℤ◌, ◌<ℤ◌, ◌≤ℤ◌, MatchOption, false, All}
 use Rattle.std.specs.Int.{int_max}
 use Rattle.std.proofs.lemmas.Bool.{cases_eq}
@@ -38,9 +38,10 @@ abbrev pub IsNextPastTo : List ObservanceSaid → ℕ → ℤ → ℤ → ℤ �
 IsNextPastTo zone count local after next =
     (i : ℕ) (s : ℤ) (p : ObservanceSaid) → i < count → IsOnset zone i s p → after <ℤ s → s <ℤ next → (s +ℤ p.offset_to) ≤ℤ local
 
--- of the observances before a place: no onset is after one instant and before another
-abbrev pub NoneBetweenTo : List ObservanceSaid → ℕ → ℤ → ℤ → Type 0
-NoneBetweenTo zone count after next = (i : ℕ) (s : ℤ) (p : ObservanceSaid) → i < count → IsOnset zone i s p → after <ℤ s → next ≤ℤ s
+-- of the observances before a place: each onset that is after one instant and before another begins the same offset
+abbrev pub KeepOffsetTo : List ObservanceSaid → ℕ → ℤ → ℤ → ℤ → Type 0
+KeepOffsetTo zone count offset after next =
+    (i : ℕ) (s : ℤ) (p : ObservanceSaid) → i < count → IsOnset zone i s p → after <ℤ s → (offset ≡ p.offset_to) ⊎ (next ≤ℤ s)
 
 -- of the observances before a place: the onsets of those with an offset, not after t, are less than another
 abbrev pub AreLessTo : List ObservanceSaid → ℕ → ℤ → ℤ → ℤ → ℕ → Type 0
@@ -125,9 +126,19 @@ module _ {zone : List ObservanceSaid} {list : List Onsets} {k : ℕ} {o : Onsets
           rw is (this_one its (λ i s p l h early. let out = before i s p l h early in omega (arith, ints)), omega (arith, ints))
       within_some (Some f) begun before is its in_window = (latest_some (Some f) before.0 is its, grind (arith, ints))
 
-  pub between_more : {after next new : ℤ} → new ≤ℤ next → ((t : ℤ) → Has o t → after <ℤ t → new ≤ℤ t) → NoneBetweenTo zone k after next
-      → NoneBetweenTo zone (k + 1) after new
-  between_more less first before i s p l h late = let at = split i s p h l in let none = before i s p in grind (arith, ints)
+  -- one more observance, which begins the same offset or has no onset there
+  pub same_kept : {offset after next : ℤ} → o.offset_to ≡ offset → KeepOffsetTo zone k offset after next → KeepOffsetTo zone (k + 1) offset after next
+  same_kept same before i s p l h late = elim (split i s p h l) [
+    | inl less ↦ before i s p less h late
+    | inr at ↦ inl (sym same ∙ at.1.1)
+  ]
+
+  pub none_kept : {offset after next new : ℤ} → new ≤ℤ next → ((t : ℤ) → Has o t → after <ℤ t → new ≤ℤ t) → KeepOffsetTo zone k offset after next
+      → KeepOffsetTo zone (k + 1) offset after new
+  none_kept less first before i s p l h late = elim (split i s p h l) [
+    | inl early ↦ elim (before i s p early h late) [ inl same ↦ inl same | inr past ↦ inr (omega (arith, ints)) ]
+    | inr at ↦ inr (first s at.1.0 late)
+  ]
 
   -- the onsets of one more are less than another
   module _ {offset t at : ℤ} {place : ℕ} (before : AreLessTo zone k offset t at place) where

@@ -4,6 +4,7 @@ pub mod DisplayTexts
 pub mod DisplayFaults
 pub mod JiffZones
 pub mod Stretches
+pub mod Spans
 pub mod ZoneFiles
 pub mod Observances
 pub mod ZoneOffsets

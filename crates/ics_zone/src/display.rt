@@ -8,7 +8,7 @@ ghost use Rattle.ics_fields.specs.Locals.{seconds_at};
 
 use crate::display_text::read_offset;
 use crate::jiff_zone::JiffZone;
-use crate::{Bounds, DisplayFault, Place, Stretch, ZoneFile};
+use crate::{Bounds, DisplayFault, Place, Spans, Stretch, ZoneFile};
 use ics_fields::{Local, Moment};
 use jiff_core::Offset;
 use jiff_tz::posix;
@@ -112,6 +112,10 @@ impl Place for Display {
 
     fn stretch(&self, local: Moment) -> Stretch {
         self.zone.stretch(local)
+    }
+
+    fn spans(&self, _local: Moment) -> Option<Spans> {
+        None
     }
 
     ghost near = { λ display moment. offset_near display moment };

@@ -1,41 +1,29 @@
-//! Walking spans with one offset each, in their order, for the locals that a clock skips from one on.
-ghost use Rattle.std.specs.Prelude.{◌≡◌, ℤ, pos, neg_ℤ, ◌+ℤ◌, ◌-ℤ◌, ◌<ℤ◌, ◌≤ℤ◌, IfSome, MatchOption};
+//! The locals that a clock skips from one on, by spans with one offset each, in their order.
+ghost use Rattle.std.specs.Prelude.{◌≡◌, ℤ, true, pos, neg_ℤ, ◌+ℤ◌, ◌-ℤ◌, ◌<ℤ◌, ◌≤ℤ◌, IfSome};
+ghost use Rattle.std.specs.List.{All, Contains};
 ghost use Rattle.ics_zone.specs.Moments.{moment_by};
 ghost use Rattle.ics_zone.specs.Seconds.{IsMoment};
 ghost use Rattle.ics_zone.specs.Stretches.{IsStretch};
-ghost use Rattle.ics_zone.specs.Inner.GapStretches.{IsSkip};
+ghost use Rattle.ics_zone.specs.Inner.GapStretches.{AreUnshown, IsJumpRead};
 ghost use Rattle.ics_zone.specs.Inner.Walks.{IsShort};
-ghost use Rattle.ics_zone.specs.Inner.ZoneOnsets.{AreSteady, IsSteady};
+ghost use Rattle.ics_zone.specs.Inner.ZoneOnsets.{AreSteady};
 
 use crate::Stretch;
 use crate::latest::Steady;
-use crate::stretches::FAR;
+use crate::stretches::{FAR, span_over};
 use ics_fields::Moment;
 
-const DAY: i64 = 86_400;
+/// How many spans are looked at for the first that shows a later local.
+const WALKED: usize = 1_024;
 
-/// What is known of the locals that a clock may skip from one on, after spans that do not show it.
+/// The first instant at which a clock shows a later local than one.
 #[derive(Clone, Copy)]
-pub(crate) struct Skip {
-    /// The end of the last span.
-    pub low: Moment,
-    /// The offset just before the end.
+pub(crate) struct Jump {
+    pub at: Moment,
+    /// The offset just before that instant.
     pub before: i32,
-    /// The locals that no span has shown, if the clock has shown a later one.
-    pub skipped: Option<Stretch>,
-}
-
-/// The walk for the locals from one on, given by its seconds, from a day before it.
-fn skip_to(seconds: i64) -> Skip
-    requires { IsMoment seconds }
-    ensures skip { (offset : ℤ → ℤ) → IsShort offset → IsSkip offset seconds result }
-    ensures low { result.low ≡ seconds -ℤ pos 86_400 }
-{
-    Skip {
-        low: seconds - DAY,
-        before: 0,
-        skipped: None,
-    }
+    /// The offset at that instant.
+    pub offset: i32,
 }
 
 /// A local that is not later than what a clock shows at an instant by an offset: the same, unless it is far away.
@@ -46,109 +34,95 @@ fn shown_near(moment: Moment, offset: i32) -> i64
     moment.min(FAR) + i64::from(offset)
 }
 
-/// The locals that are not shown up to the end of a span that shows a later one than the first of them where the last ended.
-fn later_on(seconds: i64, skip: &Skip, span: &Steady) -> Stretch
-    requires bound { IsMoment seconds }
-    requires later { seconds <ℤ (skip.now.low +ℤ span.now.offset) }
-    requires reaches { skip.now.low <ℤ span.now.next }
-    ensures from { result.from ≡ seconds }
-    ensures shown { result.to ≤ℤ (skip.now.low +ℤ span.now.offset) }
-    ensures kept { MatchOption skip.now.skipped
-        ((result.offset ≡ skip.now.before) × ((result.shown ≡ span.now.offset) × (result.to ≤ℤ (span.now.next +ℤ skip.now.before))))
-        (λ s. (result.offset ≡ s.offset) × ((result.shown ≡ s.shown) × (result.to ≤ℤ s.to))) }
+/// The instant at which a clock with an offset shows a local, given by its seconds.
+fn shown_at(seconds: i64, offset: i32) -> Moment
+    requires { IsMoment seconds }
+    ensures { result ≡ seconds -ℤ offset }
 {
-    let begin = shown_near(skip.low, span.offset);
-    match skip.skipped {
-        Some(skipped) => Stretch {
-            from: seconds,
-            to: begin.min(skipped.to),
-            offset: skipped.offset,
-            shown: skipped.shown,
-        },
-        None => Stretch {
-            from: seconds,
-            to: begin.min(shown_near(span.next, skip.before)),
-            offset: i64::from(skip.before),
-            shown: i64::from(span.offset),
-        },
-    }
+    seconds - i64::from(offset)
 }
 
-/// One more span of a walk. None if it shows the first local or does not reach on from the last.
-fn skip_on(seconds: i64, skip: &Skip, span: &Steady) -> Option<Skip>
-    requires { IsMoment seconds }
-    ensures { IfSome result (λ s. (offset : ℤ → ℤ) → IsShort offset → IsSteady offset span.now.from span.now.next span.now.offset
-        → IsSkip offset seconds skip.now → IsSkip offset seconds s) }
+/// An offset that is not less than any of these.
+fn greatest(offsets: &[i32]) -> i32
+    ensures { All (λ offset. offset ≤ℤ result) offsets.now }
 {
-    if span.from > skip.low || span.next <= skip.low {
-        return None;
+    let mut most = i32::MIN;
+    for offset in offsets {
+        most = most.max(*offset);
     }
-    let moment = seconds - i64::from(span.offset);
-    if moment < skip.low {
-        return Some(Skip {
-            low: span.next,
-            before: span.offset,
-            skipped: Some(later_on(seconds, skip, span)),
-        });
-    }
-    if moment < span.next {
-        return None;
-    }
-    Some(Skip {
-        low: span.next,
-        before: span.offset,
-        skipped: skip.skipped,
-    })
+    most
 }
 
-/// The locals that are known to be skipped: those whose days, before them and after, the walk has passed.
-fn skipped(seconds: i64, skip: &Skip) -> Stretch
+/// Whether a span begins where the last one ends, which shows earlier locals than one up to its end.
+fn follows(seconds: i64, last: &Steady, span: &Steady) -> bool
     requires { IsMoment seconds }
-    ensures { (offset : ℤ → ℤ) → IsShort offset → IsSkip offset seconds skip.now → IsStretch offset (moment_by offset) result }
+    ensures passed { result ≡ true → last.now.next ≤ℤ (seconds -ℤ last.now.offset) }
+    ensures on { result ≡ true → span.now.from ≡ last.now.next }
+    ensures some { result ≡ true → span.now.from <ℤ span.now.next }
 {
-    if skip.low <= seconds + DAY {
-        return Stretch::none();
-    }
-    match skip.skipped {
-        Some(skipped) => Stretch {
-            from: skipped.from,
-            to: skipped.to.min(skip.low - DAY),
-            offset: skipped.offset,
-            shown: skipped.shown,
-        },
-        None => Stretch::none(),
-    }
-}
-
-/// A stretch of locals that a clock skips, from one on, given by its seconds, by these spans in their order. It is empty if the spans do not tell that
-/// the clock skips this local.
-fn gap_stretch_in(spans: &[Steady], seconds: i64) -> Stretch
-    requires { IsMoment seconds }
-    ensures { (offset : ℤ → ℤ) → IsShort offset → AreSteady offset spans.now → IsStretch offset (moment_by offset) result }
-{
-    let mut skip = skip_to(seconds);
-    let begun = spans.partition_point(|span| span.from <= skip.low);
-    for k in begun.saturating_sub(1)..spans.len() {
-        if skip.low > seconds + 3 * DAY {
-            break;
-        }
-        match skip_on(seconds, &skip, &spans[k]) {
-            Some(next) => skip = next,
-            None => break,
-        }
-    }
-    skipped(seconds, &skip)
-}
-
-/// A stretch of locals that a clock skips, from one on, given by its seconds, if these spans tell that it skips this local.
-pub(crate) fn told_gap(spans: &[Steady], seconds: i64) -> Option<Stretch>
-    requires { IsMoment seconds }
-    ensures { (offset : ℤ → ℤ) → IsShort offset → AreSteady offset spans.now → IfSome result (IsStretch offset (moment_by offset)) }
-{
-    let skipped = gap_stretch_in(spans, seconds);
-    if skipped.is_empty() {
-        None
+    if span.from == last.next {
+        last.next <= shown_at(seconds, last.offset) && span.from < span.next
     } else {
-        Some(skipped)
+        false
     }
+}
+
+/// Whether a span shows a later local than one at its beginning.
+fn begins_later(seconds: i64, span: &Steady) -> bool
+    requires { IsMoment seconds }
+    ensures { result ≡ true → (seconds -ℤ span.now.offset) <ℤ span.now.from }
+{
+    shown_at(seconds, span.offset) < span.from
+}
+
+/// The first instant at which a clock shows a later local than one, given by its seconds, by its spans from the local less its greatest offset on. None
+/// if the spans do not tell it, or a clock shows the local.
+fn jump_over(spans: &[Steady], seconds: i64, most: i32) -> Option<Jump>
+    requires { IsMoment seconds }
+    ensures later { IfSome result (λ jump. seconds <ℤ (jump.at +ℤ jump.offset)) }
+    ensures jump { IfSome result (λ jump. (offset : ℤ → ℤ) → AreSteady offset spans.now → ((t : ℤ) → offset t ≤ℤ most) → IsJumpRead offset seconds jump) }
+{
+    let at = shown_at(seconds, most);
+    let mut last = span_over(spans, at, at)?;
+    let begun = spans.partition_point(|span| span.from <= at);
+    let end = spans.len().min(begun.saturating_add(WALKED));
+    for k in begun..end {
+        let span = spans[k];
+        if span.from < last.next {
+            continue;
+        }
+        if !follows(seconds, &last, &span) {
+            return None;
+        }
+        if begins_later(seconds, &span) {
+            return Some(Jump {
+                at: span.from,
+                before: last.offset,
+                offset: span.offset,
+            });
+        }
+        last = span;
+    }
+    None
+}
+
+/// A stretch of locals that a clock skips, of those that it does not show. They mean instants by the offset just before the first that shows a later
+/// one. None if the spans do not tell it.
+pub(crate) fn told_gap(offsets: &[i32], spans: &[Steady], unshown: Stretch) -> Option<Stretch>
+    requires { IsMoment unshown.from }
+    ensures { (offset : ℤ → ℤ) → IsShort offset → AreSteady offset spans.now → ((t : ℤ) → Contains offsets.now (offset t)) → AreUnshown offset unshown
+        → IfSome result (IsStretch offset (moment_by offset)) }
+{
+    let seconds = unshown.from;
+    let jump = jump_over(spans, seconds, greatest(offsets))?;
+    let at = shown_at(seconds, jump.before);
+    let span = span_over(spans, at, at)?;
+    let later = shown_near(jump.at, jump.offset);
+    let end = shown_near(span.next, jump.before);
+    Some(Stretch {
+        from: seconds,
+        to: unshown.to.min(later.min(end)),
+        offset: i64::from(jump.before),
+        shown: i64::from(span.offset),
+    })
 }

@@ -4,7 +4,7 @@ ghost use Rattle.std.specs.List.{All};
 ghost use Rattle.ics_zone.specs.Observances.{ObservanceSaid};
 ghost use Rattle.ics_zone.specs.Inner.OnsetSets.{Has, IsSound};
 ghost use Rattle.ics_zone.specs.Seconds.{IsMoment};
-ghost use Rattle.ics_zone.specs.Inner.ZoneOnsets.{AreOnsetsOfAll, IsLatestOf, IsLatestWithin, IsFirstOffset, IsNextPast, IsClear, IsOverridden, NoneBetween};
+ghost use Rattle.ics_zone.specs.Inner.ZoneOnsets.{AreOnsetsOfAll, IsLatestOf, IsLatestWithin, IsFirstOffset, IsNextPast, IsClear, IsOverridden, KeepOffset};
 
 use crate::clock::EPOCH;
 use crate::onsets::Onsets;
@@ -190,16 +190,19 @@ pub(crate) fn overrides(onsets: &[Onsets], place: usize, offset: i32, moment: Mo
     true
 }
 
-/// The first onset after an instant, if it is before a limit, and else the limit.
-pub(crate) fn next_onset(onsets: &[Onsets], after: Moment, limit: Moment) -> Moment
+/// The first onset after an instant that begins another offset than one, if it is before a limit, and else the limit.
+pub(crate) fn next_other(onsets: &[Onsets], offset: i32, after: Moment, limit: Moment) -> Moment
     requires sound { All IsSound onsets.now }
     requires limit { after <ℤ limit }
     ensures after { after <ℤ result }
     ensures bound { result ≤ℤ limit }
-    ensures next { (zone : List ObservanceSaid) → AreOnsetsOfAll zone onsets.now → NoneBetween zone after result }
+    ensures next { (zone : List ObservanceSaid) → AreOnsetsOfAll zone onsets.now → KeepOffset zone offset after result }
 {
     let mut next = limit;
     for one in onsets {
+        if one.offset_to == offset {
+            continue;
+        }
         next = one.next(after, next);
     }
     next

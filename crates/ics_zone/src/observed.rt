@@ -14,24 +14,26 @@ ghost use Rattle.ics_zone.specs.Inner.Tables.{IsTable};
 
 use crate::answers::{Answer, add_answers, group_end};
 use crate::clock::{FIRST_HELD, LAST_HELD, is_moment};
-use crate::gap_stretch::told_gap;
 use crate::latest::{
     Latest, Steady, clear_after, first_listed, first_offset, latest_of, latest_within, look_on,
-    next_onset, next_past, overrides,
+    next_other, next_past, overrides,
 };
 use crate::onsets::Onsets;
-use crate::stretches::{NO_OFFSET, all_from, narrowed, span_over};
+use crate::spans::{SpanList, told_stretch};
+use crate::stretches::span_over;
 use crate::table::{first_instant, next_of, onset_of, table_of};
 use crate::walk::moment_in;
 use crate::zone_fault::ZoneFault;
 use crate::zone_observances::ZoneObservances;
-use crate::{Bounds, Stretch};
+use crate::{Bounds, Spans, Stretch};
 use ics_fields::{Local, Moment};
 use ics_values::{Observance, are_same_observances};
 use std::alloc::{AllocError, Global};
 use std::marker::Model;
 
 const DAY: i64 = 86_400;
+
+const HOUR: i64 = 3_600;
 
 /// No offset of an observance is greater.
 const SHORT: i64 = 86_399;
@@ -48,8 +50,17 @@ const A_LONG_SPAN: i64 = 7 * DAY;
 /// The number of spans that a zone holds, unless it makes more for one instant.
 const HELD: usize = 1_024;
 
+/// A zone that holds more spans, and has few offsets, looks for a local under each of them.
+const WALKED: usize = 64;
+
 /// How many spans are made for one instant, unless a zone has many offsets.
 const HELD_AT_ONCE: usize = 128;
+
+/// After so many spans no more are made, if they are shorter than a minute each.
+const SHORT_SPANS: usize = 16;
+
+/// What spans of a minute each are of a day then: a quarter of an hour and a little more.
+const SHORT_PART: i64 = 90;
 
 /// How many observances are looked at for the spans of one instant, unless they are few.
 const LOOKED_AT: usize = 32_000_000;
@@ -65,14 +76,23 @@ const LISTED: usize = 1_500_000;
 /// How many onsets near one local are listed for each observance of such a zone.
 const NEAR_OF_EACH: usize = 16;
 
-/// A zone that has more offsets has the onsets near a local listed for a stretch.
+/// In a zone that has no more offsets, spans are made for the instants at which each of them may show a local.
 const FEW_OFFSETS: usize = 4;
 
-/// No gap is longer.
-const GAP: i64 = 2 * DAY;
+/// A span of no instant, which comes after all others.
+const NO_SPAN: Steady = Steady {
+    from: Moment::MAX,
+    next: Moment::MIN,
+    offset: 0,
+};
 
-/// How many seconds behind a local they are listed up to, if they are not too many.
-const STRETCHED: i64 = 10 * DAY;
+/// How many onsets near locals are listed at once for their stretches, if spans for more than `LONG` seconds are not few.
+const STRETCHED: usize = 32_768;
+
+const LONG: i64 = 20 * DAY;
+
+/// How many times shorter a list for stretches is made, if it is too long.
+const SHORTER: i64 = 8;
 
 /// Where the instants of many locals are found at once, those of so many days are mostly found together.
 const DAYS: u32 = 32;
@@ -89,6 +109,9 @@ const BLOCK: i64 = 32 * DAY;
 
 const BLOCKS: i64 = 6;
 
+/// How many times as long a block is as what is listed near one local.
+const BLOCK_OF_NEAR: usize = 8;
+
 /// A zone by observances (RFC 5545, section 3.6.5). It has no table of all onsets: it searches the observances near each instant. Contracts see
 /// the observances alone.
 #[derive(Drop)]
@@ -101,6 +124,8 @@ pub struct Observed {
     at_once: usize,
     /// How many onsets may still be listed.
     room: usize,
+    /// How many onsets near one local are listed. None, if the zone has few observances, or more onsets in a block than can be listed.
+    listed_near: usize,
     /// Every offset that the zone has at some instant.
     offsets: Vec<i32>,
     /// Spans about the instants that were given to `reach`, in order.
@@ -121,6 +146,7 @@ impl Model for Observed {
 
 impl Observed {
     ghost use Rattle.ics_zone.specs.Bounds.{HasBounds};
+    ghost use Rattle.ics_zone.specs.Spans.{AreSpans};
     ghost use Rattle.ics_zone.specs.Stretches.{IsStretch};
     ghost use Rattle.ics_zone.specs.ZoneOffsets.{IsOffset, zone_offset};
     ghost use Rattle.ics_zone.specs.Moments.{shown, IsFirstTime, IsInGap, IsMomentOf, zone_moment};
@@ -148,6 +174,7 @@ impl Observed {
         let ago = least_ago(&onsets);
         let at_once = spans_at_once(observances.len(), offsets.len());
         let room = onsets_listed(observances.len());
+        let listed_near = onsets_near(observances.len());
         let zone = ZoneObservances { said: observances };
         Ok(Observed {
             observances: zone,
@@ -155,6 +182,7 @@ impl Observed {
             ago,
             at_once,
             room,
+            listed_near,
             offsets,
             held: Vec::new(alloc),
         })
@@ -256,6 +284,11 @@ impl Observed {
         ensures value { result ≡ zone_moment self.now.said.items (seconds_at local.day local.second) }
     {
         let seconds = seconds_of(local);
+        if self.is_dense() {
+            if let Some(moment) = self.first_by_offset(seconds) {
+                return moment;
+            }
+        }
         if let Some(moment) = self.held_moment(seconds) {
             return moment;
         }
@@ -292,79 +325,129 @@ impl Observed {
         if self.offsets.len() == 1 {
             return Stretch::of_bounds(self.bounds());
         }
-        if let Some(stretch) = self.stretch_by(&self.held, seconds) {
+        if let Some(stretch) = told_stretch(&self.offsets, &self.held, seconds) {
             return stretch;
         }
-        if let Some(stretch) = self.listed_stretch(seconds, self.stretched()) {
-            return stretch;
-        }
-        match self.listed_stretch(seconds, 0) {
+        match told_stretch(&self.offsets, &self.made(seconds), seconds) {
             Some(stretch) => stretch,
             None => Stretch::none(),
         }
     }
 
-    /// Whether it has so few offsets that spans are made for the instants at which each of them may show a local.
-    fn has_few_offsets(&self) -> bool {
-        self.offsets.len() <= FEW_OFFSETS && !self.has_many()
-    }
-
-    /// How many seconds behind a local the onsets are listed for a stretch. In a zone of few offsets it is only for a gap that they are listed.
-    fn stretched(&self) -> i64
-        ensures { IsWithin 10_000_000 result }
+    /// The spans about a local, given by its seconds, and some days on. If their onsets are too many, the list is empty. None if the zone has one
+    /// offset or an allocation fails.
+    pub fn spans(&self, seconds: i64) -> Option<Spans>
+        requires { IsMoment seconds }
+        ensures { IfSome result (AreSpans (zone_offset self.now.said.items) (zone_moment self.now.said.items)) }
     {
-        if self.has_few_offsets() {
-            GAP
-        } else {
-            STRETCHED
+        if self.offsets.len() == 1 {
+            return None;
         }
+        let alloc = *self.held.allocator();
+        let Ok(offsets) = self.offsets.as_slice().to_vec(alloc) else {
+            return None;
+        };
+        let (until, steady) = self.listed_on(seconds);
+        Spans::of(
+            alloc,
+            SpanList {
+                until,
+                offsets,
+                steady,
+            },
+        )
     }
 
-    /// A stretch from a local on, given by its seconds, by spans up to so many seconds behind it, which are not held. None if their onsets are too
-    /// many or an allocation fails.
-    fn listed_stretch(&self, seconds: i64, ahead: i64) -> Option<Stretch>
-        requires seconds { IsMoment seconds }
-        requires ahead { IsWithin 10_000_000 ahead }
-        ensures { IfSome result (IsStretch (zone_offset self.now.said.items) (zone_moment self.now.said.items)) }
-    {
-        let most = self.onsets.len().saturating_mul(NEAR_OF_EACH);
-        let spans = self.spans_about(seconds, seconds + ahead, most)?;
-        self.stretch_by(&spans, seconds)
+    /// Whether its few offsets are soon looked at, and the spans within days of a local may be too many for a walk.
+    fn is_dense(&self) -> bool {
+        let few = self.offsets.len() <= FEW_OFFSETS && !self.has_many();
+        few && self.held.len() > WALKED
     }
 
-    /// A stretch from a local on, given by its seconds, by these spans. An instant that shows one of its locals is the local less an offset of the
-    /// zone. If none does, the clock skips the local. None if the spans do not tell so much.
-    fn stretch_by(&self, spans: &[Steady], seconds: i64) -> Option<Stretch>
-        requires seconds { IsMoment seconds }
-        requires spans { AreSteady (zone_offset self.now.said.items) spans.now }
-        ensures { IfSome result (IsStretch (zone_offset self.now.said.items) (zone_moment self.now.said.items)) }
+    /// The spans about a local, given by its seconds, and the local before which they are: those of a long stretch or else as many days on as their
+    /// onsets are not too many. If these are too many for hours or an allocation fails, there are none for a day.
+    fn listed_on(&self, seconds: i64) -> (Moment, Vec<Steady>)
+        requires { IsMoment seconds }
+        ensures { AreSteady (zone_offset self.now.said.items) result.1.items }
     {
-        let mut stretch = all_from(seconds);
-        let offsets = self.offsets.as_slice();
-        for offset in offsets {
-            if i64::from(*offset) <= stretch.offset {
-                continue;
+        if let Some(long) = self.made_on(seconds) {
+            return long;
+        }
+        let mut ahead = AHEAD;
+        while ahead >= HOUR {
+            if let Some(spans) = self.listed_spans(seconds, ahead) {
+                return (seconds + ahead, spans);
             }
-            let span = self.span_near(spans, seconds - i64::from(*offset))?;
-            stretch = narrowed(stretch, *offset, &span);
+            ahead /= SHORTER;
         }
-        if stretch.is_empty() || stretch.offset <= NO_OFFSET {
-            return told_gap(spans, seconds);
-        }
-        Some(stretch.as_shown())
+        (seconds + DAY, Vec::new(*self.held.allocator()))
     }
 
-    /// A span over an instant: one of these or, in a zone of few offsets, one that is made for it.
-    fn span_near(&self, spans: &[Steady], at: Moment) -> Option<Steady>
-        requires at { IsSearched at }
-        requires spans { AreSteady (zone_offset self.now.said.items) spans.now }
-        ensures { IfSome result (λ s. IsSteady (zone_offset self.now.said.items) s.from s.next s.offset) }
+    /// The spans about a local, given by its seconds, for so many seconds on. None if their onsets are too many or an allocation fails.
+    fn listed_spans(&self, seconds: i64, ahead: i64) -> Option<Vec<Steady>>
+        requires seconds { IsMoment seconds }
+        requires some { pos 0 ≤ℤ ahead }
+        requires most { ahead ≤ℤ pos 34_560_000 }
+        ensures { IfSome result (λ spans. AreSteady (zone_offset self.now.said.items) spans.items) }
     {
-        let span = span_over(spans, at, at);
-        if span.is_none() && self.has_few_offsets() {
-            return Some(self.steady_about(at));
+        let beside = DAY + beside(ahead);
+        let from = seconds - beside;
+        let last = seconds + ahead + beside;
+        if from > last {
+            return None;
         }
-        span
+        self.spans_between(from, seconds - DAY, last, self.listed_for(ahead))
+    }
+
+    /// How many onsets are listed at most for stretches of so many seconds on.
+    fn listed_for(&self, ahead: i64) -> usize {
+        let few = if ahead > LONG { HELD } else { STRETCHED };
+        self.onsets.len().saturating_mul(NEAR_OF_EACH).max(few)
+    }
+
+    /// The spans that are made for a stretch from a local on, given by its seconds, and the end of the stretch. None if it is not a long one or an
+    /// allocation fails.
+    fn made_on(&self, seconds: i64) -> Option<(Moment, Vec<Steady>)>
+        requires { IsMoment seconds }
+        ensures { IfSome result (λ made. AreSteady (zone_offset self.now.said.items) made.1.items) }
+    {
+        let made = self.made(seconds);
+        let stretch = told_stretch(&self.offsets, &made, seconds)?;
+        if stretch.to <= seconds + LONG {
+            return None;
+        }
+        let mut spans = Vec::new(*self.held.allocator());
+        for k in 0..FEW_OFFSETS {
+            spans.push(made[k]).ok()?;
+        }
+        Some((stretch.to, spans))
+    }
+
+    /// The spans over the instants at which a local, given by its seconds, may be shown, in a zone of few offsets, and else none.
+    fn made(&self, seconds: i64) -> [Steady; FEW_OFFSETS]
+        requires { IsMoment seconds }
+        ensures { AreSteady (zone_offset self.now.said.items) result }
+    {
+        let mut made = [NO_SPAN; FEW_OFFSETS];
+        let count = self.offsets.len();
+        if count > FEW_OFFSETS || self.has_many() {
+            return made;
+        }
+        for k in 0..count {
+            made[k] = self.span_near(seconds - i64::from(self.offsets[k]));
+        }
+        made
+    }
+
+    /// A span over an instant: one that is held or, if there is none, one that is made for it.
+    fn span_near(&self, at: Moment) -> Steady
+        requires { IsSearched at }
+        ensures { IsSteady (zone_offset self.now.said.items) result.from result.next result.offset }
+    {
+        match self.held_over(at, at) {
+            Some(held) => held,
+            None => self.steady_about(at),
+        }
     }
 
     /// Holds the spans of the blocks of days that reach from an instant to another, from the first onset of all on.
@@ -401,8 +484,18 @@ impl Observed {
                 self.hold_each(&spans);
                 self.sort_held();
             }
-            None => self.room = 0,
+            None => self.list_no_more(),
         }
+    }
+
+    /// Lists no more blocks. Where one has many times as many onsets as are listed near one local, those near a local are listed no more.
+    fn list_no_more(&mut self)
+        ensures { self.new ≡ self.old }
+    {
+        if self.room / BLOCK_OF_NEAR > self.listed_near {
+            self.listed_near = 0;
+        }
+        self.room = 0;
     }
 
     /// Holds spans, as far as no allocation fails.
@@ -524,9 +617,9 @@ impl Observed {
     {
         let mut at = from;
         let mut last = to;
-        let far = from + self.first_ahead();
+        let ahead = self.first_ahead();
         for made in 0..self.at_once {
-            if at > last || (made == HELD_AT_ONCE && at < far) {
+            if at > last || is_enough(made, at - from, ahead) {
                 return;
             }
             self.hold_about(at);
@@ -608,31 +701,33 @@ impl Observed {
         requires bound { IsMoment seconds }
         ensures { IfSome result (IsMomentOf self.now.said.items seconds) }
     {
-        if !self.has_many() {
+        if self.listed_near == 0 {
             return None;
         }
-        let most = self.onsets.len().saturating_mul(NEAR_OF_EACH);
-        let spans = self.spans_about(seconds, seconds, most)?;
+        let spans = self.spans_about(seconds, seconds, self.listed_near)?;
         moment_in(&spans, seconds)
     }
 
-    /// The span about an instant, from one onset to the next. Before all onsets it has no beginning.
+    /// The span about an instant, from one onset to the next that begins another offset. Before all onsets it has no beginning.
     fn steady_about(&self, near: Moment) -> Steady
         requires { IsSearched near }
         ensures { IsSteady (zone_offset self.now.said.items) result.from result.next result.offset }
     {
-        let next = next_onset(&self.onsets, near, near + AHEAD);
+        let last = near + AHEAD;
         match self.latest_about(near) {
             Some(latest) => Steady {
                 from: latest.at,
-                next,
+                next: next_other(&self.onsets, latest.offset, near, last),
                 offset: latest.offset,
             },
-            None => Steady {
-                from: Moment::MIN,
-                next,
-                offset: first_offset(&self.onsets),
-            },
+            None => {
+                let offset = first_offset(&self.onsets);
+                Steady {
+                    from: Moment::MIN,
+                    next: next_other(&self.onsets, offset, near, last),
+                    offset,
+                }
+            }
         }
     }
 
@@ -739,16 +834,26 @@ impl Observed {
         }
     }
 
-    /// The first instant at which the clock shows a local, given by its seconds. Such an instant is the local less an offset of the zone.
+    /// The first instant at which the clock shows a local, given by its seconds.
     fn first_time(&self, seconds: i64) -> Option<Moment>
         requires { IsMoment seconds }
         ensures { MatchOption result
             ((t : ℤ) → shown (zone_offset self.now.said.items) t ≢ seconds)
             (IsFirstTime (zone_offset self.now.said.items) seconds) }
     {
-        if let Some(moment) = self.steady_time(seconds) {
-            return Some(moment);
+        match self.steady_time(seconds) {
+            Some(moment) => Some(moment),
+            None => self.first_by_offset(seconds),
         }
+    }
+
+    /// The same by a look at each offset of the zone: such an instant is the local less one of them.
+    fn first_by_offset(&self, seconds: i64) -> Option<Moment>
+        requires { IsMoment seconds }
+        ensures { MatchOption result
+            ((t : ℤ) → shown (zone_offset self.now.said.items) t ≢ seconds)
+            (IsFirstTime (zone_offset self.now.said.items) seconds) }
+    {
         let offsets = self.offsets.as_slice();
         let mut first: Option<Moment> = None;
         let mut hint = usize::MAX;
@@ -891,10 +996,37 @@ fn spans_at_once(observances: usize, offsets: usize) -> usize {
     offsets.saturating_mul(8).min(most).max(HELD_AT_ONCE)
 }
 
+/// How many seconds beside those that are needed are listed too, for so many seconds: then no stretch is cut short but at their end.
+fn beside(ahead: i64) -> i64
+    requires { pos 0 ≤ℤ ahead }
+    ensures some { pos 0 ≤ℤ result }
+    ensures most { result ≤ℤ pos 86_400 }
+{
+    ahead.min(DAY)
+}
+
+/// Whether so many spans are enough, since they reach through so few seconds, of those that the first ones are to reach through.
+fn is_enough(made: usize, reached: i64, ahead: i64) -> bool {
+    match made {
+        SHORT_SPANS => reached < ahead / SHORT_PART,
+        HELD_AT_ONCE => reached < ahead,
+        _ => false,
+    }
+}
+
 /// How many onsets of a zone are listed.
 fn onsets_listed(observances: usize) -> usize {
     if observances > FEW {
         observances.saturating_mul(LISTED_OF_EACH).min(LISTED)
+    } else {
+        0
+    }
+}
+
+/// How many onsets of a zone are listed near one local.
+fn onsets_near(observances: usize) -> usize {
+    if observances > FEW {
+        observances.saturating_mul(NEAR_OF_EACH)
     } else {
         0
     }

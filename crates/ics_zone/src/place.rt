@@ -4,7 +4,7 @@ ghost use Rattle.jiff_core.specs.Calendar.{IsBetween};
 ghost use Rattle.ics_zone.specs.Seconds.{IsMoment, IsDay};
 ghost use Rattle.ics_fields.specs.Locals.{seconds_at};
 
-use crate::{Bounds, Stretch};
+use crate::{Bounds, Spans, Stretch};
 use ics_fields::{Local, Moment};
 
 const DAY: i64 = 86_400;
@@ -13,9 +13,10 @@ const DAY: i64 = 86_400;
 /// (RFC 5545, sections 3.3.5 and 3.6.5). Contracts see a local as one number: the seconds since
 /// 1970-01-01T00:00:00, each day having 86,400. Callers stay in the years 0000 to 9950.
 pub trait Place {
-    ghost use Rattle.std.specs.Prelude.{◌≡◌, ◌-ℤ◌, ℤ};
+    ghost use Rattle.std.specs.Prelude.{◌≡◌, ◌-ℤ◌, ℤ, IfSome};
     ghost use Rattle.ics_zone.specs.Bounds.{HasBounds};
     ghost use Rattle.ics_zone.specs.Seconds.{IsNear};
+    ghost use Rattle.ics_zone.specs.Spans.{AreSpans};
     ghost use Rattle.ics_zone.specs.Stretches.{IsStretch};
 
     /// The offset at an instant, in seconds.
@@ -58,6 +59,11 @@ pub trait Place {
     fn stretch(&self, local: Moment) -> Stretch
         requires { IsMoment local }
         ensures { IsStretch (offset_at self.now) (moment_at self.now) result };
+
+    /// The spans about a local, given by its seconds, and some days on. None if the clock tells stretches as well without them.
+    fn spans(&self, local: Moment) -> Option<Spans>
+        requires { IsMoment local }
+        ensures { IfSome result (AreSpans (offset_at self.now) (moment_at self.now)) };
 
     /// An offset is less than two days.
     ghost near: { (place : Self) (moment : ℤ) → IsNear (offset_at place moment) };

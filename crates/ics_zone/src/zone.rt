@@ -10,7 +10,7 @@ ghost use Rattle.ics_fields.specs.Locals.{seconds_at};
 use crate::jiff_zone::JiffZone;
 use crate::observed::Observed;
 use crate::shared_observed::SharedObserved;
-use crate::{Bounds, Place, Stretch, ZoneFault, ZoneFile, ZoneFileFault};
+use crate::{Bounds, Place, Spans, Stretch, ZoneFault, ZoneFile, ZoneFileFault};
 use ics_fields::{Local, Moment};
 use ics_values::Observance;
 use std::alloc::{AllocError, Global};
@@ -220,6 +220,13 @@ impl Place for Zone {
         match &self.kind {
             ZoneKind::ByObservances(observed) => observed.get().stretch(local),
             ZoneKind::ByJiff(zone) => zone.stretch(local),
+        }
+    }
+
+    fn spans(&self, local: Moment) -> Option<Spans> {
+        match &self.kind {
+            ZoneKind::ByObservances(observed) => observed.get().spans(local),
+            ZoneKind::ByJiff(_) => None,
         }
     }
 

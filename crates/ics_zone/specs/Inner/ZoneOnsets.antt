@@ -82,9 +82,10 @@ IsClear zone local after next =
     (i : ℕ) (s : ℤ) (p : ObservanceSaid) → IsOnset zone i s p → after <ℤ s → s <ℤ next → local <ℤ (s +ℤ p.offset_to)
     → (j : ℕ) × ((q : ObservanceSaid) × (IsOnset zone j s q × ((i < j) × ((s +ℤ q.offset_to) ≤ℤ local))))
 
--- no onset is after one instant and before another
-abbrev pub NoneBetween : List ObservanceSaid → ℤ → ℤ → Type 0
-NoneBetween zone after next = (i : ℕ) (s : ℤ) (p : ObservanceSaid) → IsOnset zone i s p → after <ℤ s → next ≤ℤ s
+-- each onset that is after one instant and before another begins the same offset
+abbrev pub KeepOffset : List ObservanceSaid → ℤ → ℤ → ℤ → Type 0
+KeepOffset zone offset after next =
+    (i : ℕ) (s : ℤ) (p : ObservanceSaid) → IsOnset zone i s p → after <ℤ s → (offset ≡ p.offset_to) ⊎ (next ≤ℤ s)
 
 -- an onset not after t is greater than all of the observances with an offset
 pub record IsOverridden (zone : List ObservanceSaid) (t offset : ℤ) : Type 0 where

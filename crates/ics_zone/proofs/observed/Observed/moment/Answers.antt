@@ -7,8 +7,16 @@ use Rattle.ics_zone.proofs.observed.Observed.moment.Goals as goal
 pub returns-in-Some : goal.returns-in-Some
 returns-in-Some c =
     let fits : SFits w64 c.seconds_of-seconds.result = search rules in
-    let is : IsMomentOf c.args.self.now.said.items c.seconds_of-seconds.result c.in-Some.moment = simp to_z-of_z at c.in-Some.ensures in
+    let is : IsMomentOf c.args.self.now.said.items c.seconds_of-seconds.result c.in-Some.moment =
+    inl (simp to_z-of_z at c.in-Some.ensures) in
     rw (to_z-of_z w64 c.in-Some.moment (search rules), sym c.seconds_of-seconds.ensures)
+    (record { means = is; value = is_found c.args.self.now c.seconds_of-seconds.result _ is })
+
+pub returns-in-Some-held_moment : goal.returns-in-Some-held_moment
+returns-in-Some-held_moment c =
+    let fits : SFits w64 c.seconds_of-seconds.result = search rules in
+    let is : IsMomentOf c.args.self.now.said.items c.seconds_of-seconds.result c.in-Some-held_moment.moment = simp to_z-of_z at c.in-Some-held_moment.ensures in
+    rw (to_z-of_z w64 c.in-Some-held_moment.moment (search rules), sym c.seconds_of-seconds.ensures)
     (record { means = is; value = is_found c.args.self.now c.seconds_of-seconds.result _ is })
 
 pub returns-in-Some-near_moment : goal.returns-in-Some-near_moment

@@ -2,24 +2,24 @@ use Rattle.std.proofs.Common.{rules, arith, pos, ◌-ℤ◌, get_or, w32, w64, t
 use Rattle.std.proofs.lemmas.Int.{ints, to_z-of_z}
 use Rattle.ics_zone.specs.ZoneOffsets.{zone_offset}
 use Rattle.ics_zone.proofs.CandidateLemmas.{first_stays, first_early, first_moves, first_found}
-use Rattle.ics_zone.proofs.observed.Observed.first_time.Goals as goal
+use Rattle.ics_zone.proofs.observed.Observed.first_by_offset.Goals as goal
 
 pub loop-offset-preserved-then-is_by : goal.loop-offset-preserved-then-is_by
 loop-offset-preserved-then-is_by c =
     first_early (zone_offset c.args.self.now.said.items) _ _ _ (pos 0) c.loop-offset-test.true c.loop-offset.first c.loop-offset.invariant
     (to_z w64 (of_z w64 (to_z w64 (of_z w64 c.args.seconds) -ℤ to_z w64 (of_z w64 c.from.result)))) (omega (arith, ints)) c.is_by.ensures c.if-is_by.true
 
-pub loop-offset-preserved-in_default-shown_with : goal.loop-offset-preserved-in_default-shown_with
-loop-offset-preserved-in_default-shown_with c =
+pub loop-offset-preserved-in_default : goal.loop-offset-preserved-in_default
+loop-offset-preserved-in_default c =
     first_stays (zone_offset c.args.self.now.said.items) _ _ _ (pos 0) c.loop-offset-test.true c.loop-offset.first c.loop-offset.invariant
-    (simp (to_z-of_z w32 (get_or c.as_slice-offsets.result.now c.loop-offset.offset-index (pos 0)) (search rules)) at c.in_default-shown_with.ensures)
+    (simp (to_z-of_z w32 (get_or c.as_slice-offsets.result.now c.loop-offset.offset-index (pos 0)) (search rules)) at c.in_default.ensures)
 
 pub loop-offset-preserved : goal.loop-offset-preserved
 loop-offset-preserved c =
-    let is = simp (to_z-of_z w32 (get_or c.as_slice-offsets.result.now c.loop-offset.offset-index (pos 0)) (search rules)) at c.in-Some-shown_with.ensures in
+    let is = simp (to_z-of_z w32 (get_or c.as_slice-offsets.result.now c.loop-offset.offset-index (pos 0)) (search rules)) at c.in-Some.ensures in
     rw (to_z-of_z w64 c.earlier.result (search rules))
     (first_moves (zone_offset c.args.self.now.said.items) _ _ _ (pos 0) c.loop-offset-test.true c.loop-offset.first c.earlier.result
-    c.loop-offset.invariant is.0 is.1 (simp (to_z-of_z w64 c.in-Some-shown_with.moment (search rules)) at c.earlier.ensures))
+    c.loop-offset.invariant is.0 is.1 (simp (to_z-of_z w64 c.in-Some.moment (search rules)) at c.earlier.ensures))
 
 pub returns : goal.returns
 returns c =
