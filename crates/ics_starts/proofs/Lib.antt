@@ -19,4 +19,5 @@ pub mod ZoneLemmas
 pub mod PassedLemmas
 pub mod RemovedLemmas
 pub mod EndedLemmas
+pub mod OverLemmas
 pub mod SameLemmas

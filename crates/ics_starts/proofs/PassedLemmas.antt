@@ -8,6 +8,7 @@ use Rattle.std.proofs.lemmas.Bool.{cases_lt}
 use Rattle.std.proofs.lemmas.Cmp.{tied_back, tied_itself}
 use Rattle.std.proofs.lemmas.Int.{ints}
 use Rattle.ics_event.specs.declared.event.Event.{Event}
+use Rattle.ics_fields.specs.Days.{day_index}
 use Rattle.ics_rule.specs.Cursors.{place_of}
 use Rattle.ics_rule.specs.Kept.{is_kept}
 use Rattle.ics_period.specs.PeriodNumbers.{rules_end}
@@ -28,9 +29,10 @@ use Rattle.ics_listing.specs.Merged.{put, union, HasNoKey}
 use Rattle.ics_listing.specs.Inner.MergedLaws.{back, before-filter, before-trans, rises-union}
 use Rattle.ics_listing.specs.Rising.{IsBefore, Rises}
 use Rattle.ics_starts.specs.RuleFeed.{held_in, starts_left, HasPassed}
-use Rattle.ics_starts.specs.RuleStarts.{found, found_in, gives, local_numbered, moment_numbered, number_in, to_come, with_put}
+use Rattle.ics_starts.specs.RuleStarts.{found, found_in, gives, local_numbered, midnight_number, moment_numbered, number_in, to_come, with_put}
 use Rattle.ics_starts.specs.SeriesFeed.{series_left, series_of}
-use Rattle.ics_starts.specs.SeriesStarts.{first_of, given_of, is_wanted, left, wanted_by, ArePassed, AreStartsIn, HasOwnRule, HasRuled, HasSameRule, IsOwnRule}
+use Rattle.ics_starts.specs.SeriesStarts.{first_of, given_of, is_wanted, left, rule_steps, wanted_by, ArePassed, AreStartsIn, HasOwnRule}
+use Rattle.ics_starts.specs.SeriesStarts.{HasRuled, HasSameRule, IsOwnRule}
 use Rattle.ics_listing.specs.KnownStarts.{listed_left}
 use Rattle.ics_starts.specs.Starts.{recurrence_of}
 use Rattle.ics_listing.specs.StartTimes.{time_of}
@@ -333,6 +335,15 @@ pub record IsSkipped (s : Series) (rule : Option RuleStarts) : Type 0 where
   pub coming : series_of s (left rule s.listed) ≡ series_of s (series_left s)
   pub fewer : length (left rule s.listed) ≤ length (series_left s)
   pub same : HasSameRule s.rule_starts rule
+  pub steps : rule_steps rule ≤ rule_steps s.rule_starts
+
+-- no more of a rule is left to be read
+steps-passed : {P : ℕ → Type 0} {a b : RuleStarts} → HasPassed P a b → rule_steps (Some b) ≤ rule_steps (Some a)
+steps-passed {a = a} {b = b} k =
+    let end = ap midnight_number k.source.end in
+    let days : day_index b.end - day_index b.day ≡ day_index a.end - day_index a.day =
+    (λ i. day_index (k.source.end i) - day_index (k.day i)) in
+    omega (arith, end, days, k.on)
 
 pub passed : (s : Series) {P : RuleStarts → ℕ → Type 0} {keep : ℤ → Bool} → IsTest s P keep → (rule : Option RuleStarts) → ArePassed P s.rule_starts rule
     → IsSkipped s rule
@@ -345,6 +356,7 @@ passed s {P = P} test rule h = by s.rule_starts refl rule h
       coming = ap (λ o. series_of s (left o s.listed)) (sym is);
       fewer = subst (λ o. length (left o s.listed) ≤ length (series_left s)) is (omega arith);
       same = subst (λ o. HasSameRule o None) (sym is) tt;
+      steps = subst (λ o. 0 ≤ rule_steps o) (sym is) (omega arith);
     }
     by (Some a) is (Some b) k = record {
       known = subst (AreStartsIn s.zones) (sym (after s test a b is k)) (known-all s test a b is k (place_of b.cursor));
@@ -352,6 +364,7 @@ passed s {P = P} test rule h = by s.rule_starts refl rule h
       coming = same-given s test a b is k;
       fewer = omega (arith, ap length (after s test a b is k), ap length (before s test a b is k), fewer-left s test a b is k);
       same = subst (λ o. HasSameRule o (Some b)) (sym is) k.source;
+      steps = subst (λ o. rule_steps (Some b) ≤ rule_steps o) (sym is) (steps-passed k);
     }
     by None is (Some b) k = absurd k
     by (Some a) is None k = absurd k

@@ -186,11 +186,15 @@ module _ (zones : FileZones) (w : Window) (event : Event) where
   late-least (Zoned local) (Until end) = omega (arith, ints)
   late-least (Zoned local) (Lasting duration) = omega (arith, ints)
 
-  -- what meets the window from a local begins no more before an event of this length can
+  late-if : (b : Bool) → (if b then pos 0 else late_by [] event.start.stamp event.length) ≤ℤ late_by [] event.start.stamp event.length
+  late-if true = late-least event.start.stamp event.length
+  late-if false = omega (arith, ints)
+
+  -- what meets the window from a local begins no more before an event of this length can, or not before the window if what has begun is left out
   pub met-from : (local : Local) → Meets w (entry_from (clocks_in zones) event (At (time_at event.start local))) → (b : Bool) → w.notstarted ≡ b →
-      ((if b then w.from else w.from -ℤ seconds_lasting (clocks_in zones) event) -ℤ late_by [] event.start.stamp event.length)
+      ((if b then w.from else w.from -ℤ seconds_lasting (clocks_in zones) event) -ℤ (if b then pos 0 else late_by [] event.start.stamp event.length))
       ≤ℤ instant (clocks_in zones) (time_at event.start local)
-  met-from local m true e = omega (arith, ints, m.started e, late-least event.start.stamp event.length)
+  met-from local m true e = omega (arith, ints, m.started e)
   met-from local m false e =
       let end = late-bound event.start event.start.zone event.start.stamp local event.length in
       let least = seconds-least zones event.start event.start.stamp event.length in
@@ -210,7 +214,7 @@ module _ (zones : FileZones) (w : Window) (event : Event) where
           let most = earliest-most (clocks_in zones) w event (first_met (clocks_in zones) w event) (front (clocks_in zones) w event) in
           let met = subst (λ v. Meets w (entry_from (clocks_in zones) event v)) g.1 m in
           let there = ap (λ v. instant (clocks_in zones) (time_of v)) g.1 in
-          omega (arith, ints, most, met-from local met w.notstarted refl, there, same)
+          omega (arith, ints, most, met-from local met w.notstarted refl, late-if w.notstarted, there, same)
       by (Listed place) given g same m = let f : None ≡ Some g.0 = ap (λ rs. slice_get rs place) (sym e) ∙ g.1 in absurd cc
 
   late-range : (rdates : List Rdate) → pos 0 ≤ℤ late_by rdates event.start.stamp event.length

@@ -1,5 +1,6 @@
 -- What a stretch of locals tells of a clock.
-use Rattle.std.proofs.Common.{◌≡◌, ℤ, ◌-ℤ◌, ◌≤ℤ◌, ◌<ℤ◌, true, int_le, Option, ℕ, refl, sym, ◌∙◌, ap, subst, arith}
+use Rattle.std.proofs.Common.{◌≡◌, ℤ, ◌-ℤ◌, ◌≤ℤ◌, ◌<ℤ◌, true, int_le, Option, Some, ℕ, refl, sym, ◌∙◌, ap, subst, arith}
+use Rattle.std.proofs.Math.Logic.{∥∥₁_elim}
 use Rattle.std.proofs.lemmas.Int.{ints}
 use Rattle.ics_fields.specs.Locals.{local_seconds}
 use Rattle.ics_fields.specs.declared.local.Local.{Local}
@@ -10,8 +11,12 @@ use Rattle.ics_listing.specs.FileClocks.{Clock, Clocks}
 use Rattle.ics_listing.specs.StartTimes.{local_of, stamp_at, time_at}
 use Rattle.ics_period.proofs.Tests.{and_true}
 use Rattle.ics_zone.proofs.Cases.{int_le_true, int_lt_true}
+use Rattle.ics_zone.specs.Spans.{AreSpans}
+use Rattle.ics_zone.specs.Stretches.{IsStretch}
+use Rattle.ics_zone.specs.declared.spans.Spans.{Spans}
 use Rattle.ics_zone.specs.declared.stretch.Stretch.{Stretch}
-use Rattle.ics_starts.specs.Clocks.{clock_by, clock_of, instant, is_in, IsStretched}
+use Rattle.ics_starts.specs.Clocks.{clock_by, clock_of, instant, is_in, AreSpansOf, IsStretched}
+use Rattle.ics_starts.specs.RuleStartLaws.{stretched-prop}
 
 pub inside : (s : Stretch) (local : ℤ) → is_in s local ≡ true → (s.from ≤ℤ local) × (local <ℤ s.to)
 inside s local e =
@@ -41,3 +46,8 @@ pub instant-inside : (clocks : Clocks) (time : Time) (s : Stretch) → IsStretch
 instant-inside clocks time s h local is e =
     let at = inside s local e in
     sym (h.moments local at.0 at.1) ∙ ap (clock_of clocks time).moment is
+
+-- what spans tell is a stretch of the clock whose spans they are
+pub kept-stretched : (clock : Clock) (kept : Spans) (s : Stretch) → AreSpansOf clock (Some kept)
+    → ((offset moment : ℤ → ℤ) → AreSpans offset moment kept → IsStretch offset moment s) → IsStretched clock s
+kept-stretched clock kept s are told = ∥∥₁_elim are (stretched-prop clock s) (told clock.offset clock.moment)

@@ -1,12 +1,14 @@
 -- Instants and locals of times (RFC 5545, sections 3.3.4, 3.3.5 and 3.6.5). A local is counted in seconds from
 -- 1970-01-01T00:00:00, each day having 86,400.
-use Rattle.std.specs.Prelude.{ℕ, ℤ, pos, ◌+ℤ◌, ◌&&◌, int_le, int_lt, Bool, List, map, slice_index_or, Option, Some, None}
+use Rattle.std.specs.Prelude.{ℕ, ℤ, pos, ◌+ℤ◌, ◌&&◌, int_le, int_lt, Bool, List, map, slice_index_or, IfSome, Option, Some, None}
 use Rattle.ics_values.specs.declared.stamp.Stamp.{Stamp}
 use Rattle.ics_values.specs.declared.stamp.Stamp.TheVariants.{Date, Floating, Utc, Zoned}
 use Rattle.ics_event.specs.Event.{Time}
 use Rattle.ics_zone.specs.Bounds.{HasBounds}
+use Rattle.ics_zone.specs.Spans.{AreSpans}
 use Rattle.ics_zone.specs.Stretches.{IsStretch}
 use Rattle.ics_zone.specs.declared.bounds.Bounds.{Bounds}
+use Rattle.ics_zone.specs.declared.spans.Spans.{Spans}
 use Rattle.ics_zone.specs.declared.stretch.Stretch.{Stretch}
 use Rattle.ics_zone.specs.ZoneSaid.{ZoneSaid, display_said, said_moment, said_offset}
 use Rattle.ics_zone.specs.declared.display.Display.{Display}
@@ -57,6 +59,10 @@ IsBounded clock b = HasBounds clock.offset clock.moment b.least b.most
 -- a clock shows the locals of a stretch by one offset
 abbrev pub IsStretched : Clock → Stretch → Type 0
 IsStretched clock s = IsStretch clock.offset clock.moment s
+
+-- the spans that are kept, if there are some, are those of a clock
+abbrev pub AreSpansOf : Clock → Option Spans → Type 0
+AreSpansOf clock spans = ∥ IfSome spans (AreSpans clock.offset clock.moment) ∥₁
 
 -- a local, given by its seconds, is in a stretch
 abbrev pub is_in : Stretch → ℤ → Bool

@@ -1,5 +1,5 @@
 -- The end of an occurrence (RFC 5545, sections 3.6.1 and 3.8.2).
-use Rattle.std.specs.Prelude.{ℤ, pos, ◌+◌, ◌*◌, ◌+ℤ◌, ◌-ℤ◌, ◌*ℤ◌}
+use Rattle.std.specs.Prelude.{◌≡◌, ◌<ℤ◌, ◌≤ℤ◌, ℤ, pos, ◌+◌, ◌*◌, ◌+ℤ◌, ◌-ℤ◌, ◌*ℤ◌}
 use Rattle.std.specs.Int.{int_max}
 use Rattle.ics_values.specs.declared.duration.Duration.{Duration}
 use Rattle.ics_values.specs.declared.stamp.Stamp.{Stamp}
@@ -13,7 +13,8 @@ use Rattle.ics_event.specs.declared.event.Event.{Event}
 use Rattle.ics_listing.specs.FileClocks.{Clock, Clocks, day_of}
 use Rattle.ics_starts.specs.Clocks.{clock_of, instant, local_at}
 use Rattle.ics_fields.specs.Locals.{midnight, whole_days}
-use Rattle.ics_listing.specs.StartTimes.{time_of}
+use Rattle.ics_fields.specs.declared.local.Local.{Local}
+use Rattle.ics_listing.specs.StartTimes.{time_at, time_of}
 
 -- How many days an event that starts on a date lasts: up to its DTEND, or the whole days of its DURATION, and at least one.
 abbrev pub days_lasting : ℤ → Length → ℤ
@@ -57,3 +58,17 @@ seconds_by clocks first stamp (Lasting duration) = pos (duration.days * 86_400 +
 
 abbrev pub seconds_lasting : Clocks → Event → ℤ
 seconds_lasting clocks event = seconds_by clocks event.start event.start.stamp event.length
+
+-- each occurrence by the rule of the event ends a duration later by the clock of DTSTART
+abbrev pub AreLasting : Clocks → Event → Duration → Type 0
+AreLasting clocks event duration = (local : Local) → let given = time_at event.start local in
+    end_of clocks event (At given) ≡ later_by (clock_of clocks event.start) duration (instant clocks given)
+
+-- what begins at t and ends a duration later by a clock has done so by an instant, but began before it
+pub record IsOver (clock : Clock) (duration : Duration) (by t : ℤ) : Type 0 where
+  pub begun : t <ℤ by
+  pub ended : later_by clock duration t ≤ℤ by
+
+-- so has all that begins from one instant on and before another
+abbrev pub AreOver : Clock → Duration → ℤ → ℤ → ℤ → Type 0
+AreOver clock duration by from to = (t : ℤ) → from ≤ℤ t → t <ℤ to → IsOver clock duration by t

@@ -38,6 +38,7 @@ pub record HasSameSource (old new : RuleStarts) : Type 0 where
 -- The same starts, where locals were passed over of which something holds: none of them is read.
 pub record HasPassed (P : ℕ → Type 0) (old new : RuleStarts) : Type 0 where
   pub source : HasSameSource old new
+  pub day : new.day ≡ old.day
   pub on : place_of old.cursor ≤ place_of new.cursor
   pub left : starts_left new ≡ to_come (clocks_in old.zones) old.event.now old.rule old.window (held_in old) (place_of new.cursor)
   pub each : (n : ℕ) → place_of old.cursor ≤ n → n < place_of new.cursor → P n
@@ -56,8 +57,16 @@ pub record IsPast (t u : ℤ) (s : RuleStarts) (n : ℕ) : Type 0 where
   pub first : t ≤ℤ moment_numbered (clocks_in s.zones) s.event.now n
   pub second : u ≤ℤ moment_numbered (clocks_in s.zones) s.event.now n
 
+-- the local with this number means an instant that is not before the first of these, and before the second
+pub record IsAmid (t u : ℤ) (s : RuleStarts) (n : ℕ) : Type 0 where
+  pub from : t ≤ℤ moment_numbered (clocks_in s.zones) s.event.now n
+  pub before : moment_numbered (clocks_in s.zones) s.event.now n <ℤ u
+
 abbrev pub HasSkipped : List ℤ → RuleStarts → RuleStarts → Type 0
 HasSkipped days old new = HasPassed (IsDayShown days old) old new
 
 abbrev pub HasEnded : ℤ → RuleStarts → RuleStarts → Type 0
 HasEnded t old new = HasPassed (IsEarlier t old) old new
+
+abbrev pub HasLeapt : ℤ → ℤ → RuleStarts → RuleStarts → Type 0
+HasLeapt t u old new = HasPassed (IsAmid t u old) old new

@@ -1,5 +1,5 @@
 -- The starts of a series still to come, and the occurrences that they give.
-use Rattle.std.specs.Prelude.{◌≡◌, ◌<◌, ◌≤◌, ◌<ℤ◌, ◌≤ℤ◌, ℕ, ℤ, ◌+ℤ◌, ◌-ℤ◌, Bool, true, false, ◌&&◌, not, int_le, List, [], ◌∷◌, Option, None, Some, ◌⊎◌}
+use Rattle.std.specs.Prelude.{◌≡◌, ◌<◌, ◌≤◌, ◌<ℤ◌, ◌≤ℤ◌, ℕ, ℤ, pos, ◌+ℤ◌, ◌-ℤ◌, Bool, true, false, ◌&&◌, not, int_le, List, [], ◌∷◌, Option, None, Some, ◌⊎◌}
 use Rattle.std.specs.Prelude.{if◌then◌else◌, is_none}
 use Rattle.std.specs.Int.{int_max, int_min}
 use Rattle.std.specs.List.{filter_map, list_any}
@@ -9,6 +9,7 @@ use Rattle.ics_fields.specs.RuleParts.{RuleParts}
 use Rattle.ics_fields.specs.declared.local.Local.{Local}
 use Rattle.ics_fields.specs.Locals.{number, midnight, local_seconds, whole_days}
 use Rattle.ics_period.specs.Recurrence.{Recurrence}
+use Rattle.ics_rule.specs.Cursors.{place_of}
 use Rattle.ics_event.specs.declared.event.Event.{Event}
 use Rattle.ics_listing.specs.declared.listed_starts.ListedStarts.{ListedStarts}
 use Rattle.ics_starts.specs.declared.rule_starts.RuleStarts.{RuleStarts}
@@ -28,8 +29,8 @@ use Rattle.ics_starts.specs.Meeting.{entry_from}
 use Rattle.ics_listing.specs.WindowMeeting.{is_met}
 use Rattle.ics_listing.specs.Merged.{cut, union}
 use Rattle.ics_starts.specs.MeetsWindow.{IsEventMet}
-use Rattle.ics_starts.specs.RuleFeed.{is_unsettled, starts_left, HasPassed, HasSameSource, IsDayShown, IsEarlier}
-use Rattle.ics_starts.specs.RuleStarts.{found, moment_numbered}
+use Rattle.ics_starts.specs.RuleFeed.{is_unsettled, starts_left, HasPassed, HasSameSource, IsAmid, IsDayShown, IsEarlier}
+use Rattle.ics_starts.specs.RuleStarts.{found, moment_numbered, steps_left}
 use Rattle.ics_listing.specs.StartTimes.{local_of, time_at}
 use Rattle.ics_starts.specs.Starts.{recurrence_of, IsRuleStart}
 use Rattle.ics_listing.specs.KnownStarts.{listed_left}
@@ -52,6 +53,11 @@ abbrev pub IsReady : Option RuleStarts → Type 0
 IsReady None = Unit {0}
 IsReady (Some s) = is_unsettled s ≡ false
 
+-- how many seconds and days of the rule are left to be read at most
+abbrev pub rule_steps : Option RuleStarts → ℕ
+rule_steps None = 0
+rule_steps (Some s) = steps_left s.day s.end (place_of s.cursor)
+
 -- the starts are those of the same rule
 abbrev pub HasSameRule : Option RuleStarts → Option RuleStarts → Type 0
 HasSameRule None None = Unit {0}
@@ -71,6 +77,10 @@ AreSkipped days old new = ArePassed (IsDayShown days) old new
 -- all of them mean instants before this one
 abbrev pub AreEnded : ℤ → Option RuleStarts → Option RuleStarts → Type 0
 AreEnded t old new = ArePassed (IsEarlier t) old new
+
+-- all of them mean instants from the first of these on and before the second
+abbrev pub AreLeapt : ℤ → ℤ → Option RuleStarts → Option RuleStarts → Type 0
+AreLeapt t u old new = ArePassed (IsAmid t u) old new
 
 -- the starts that are known from the beginning: those by RDATEs and, if there is no rule, the one at DTSTART
 abbrev pub listed_apart : Clocks → Window → Event → Option RuleParts → List Start
@@ -123,9 +133,10 @@ abbrev pub wanted_by : Clocks → Window → Event → ℤ → Start → Option 
 wanted_by clocks w event since s =
     if is_wanted clocks w event since (entry_from clocks event s.given) then Some (entry_from clocks event s.given) else None
 
--- The first instant at which a start by the rule can give such an occurrence: it can end so many seconds later than the event's length says.
+-- The first instant at which a start by the rule can give such an occurrence: it can end so many seconds later than the event's length says. If what has
+-- begun is left out, none before the window does.
 abbrev pub first_given : Clocks → Window → Event → ℤ → ℤ
-first_given clocks w event since = int_max (first_met clocks w event -ℤ rule_late event) since
+first_given clocks w event since = int_max (first_met clocks w event -ℤ (if w.notstarted then pos 0 else rule_late event)) since
 
 -- an instant is that one, if it is known
 abbrev pub IsFirstGiven : Clocks → Window → Event → ℤ → Option ℤ → Type 0

@@ -1,7 +1,7 @@
 //! The instants of times.
-ghost use Rattle.std.specs.Prelude.{◌≡◌, ◌≤ℤ◌, ◌-ℤ◌, pos};
+ghost use Rattle.std.specs.Prelude.{◌≡◌, ◌≤ℤ◌, ◌-ℤ◌, pos, IfSome};
 ghost use Rattle.ics_zone.specs.Seconds.{IsMoment};
-ghost use Rattle.ics_starts.specs.Clocks.{clock_of, instant, is_in, IsBounded, IsStretched};
+ghost use Rattle.ics_starts.specs.Clocks.{clock_of, instant, is_in, AreSpansOf, IsBounded, IsStretched};
 ghost use Rattle.ics_listing.specs.FileClocks.{Clock};
 ghost use Rattle.ics_starts.specs.FileZones.{clocks_in, is_past, IsTimeOf};
 ghost use Rattle.ics_starts.specs.Leeway.{seconds_off};
@@ -10,7 +10,10 @@ use crate::zones::FileZones;
 use ics_event::Time;
 use ics_listing::{Window, local_of};
 use ics_values::{Local, Moment, Stamp};
-use ics_zone::{Bounds, Place, Stretch};
+use ics_zone::{Bounds, Place, Spans, Stretch};
+
+/// A stretch that reaches so many seconds past a local is far.
+const FAR: i64 = 3_600;
 
 /// The instant of a time. A date, as its midnight, and a floating local are read in the display zone, a
 /// zoned local in its own zone (RFC 5545, section 3.3.5). The time is in the years of stamps, and has no
@@ -58,6 +61,93 @@ pub(crate) fn stretch(zones: FileZones<'_>, time: Time, local: Moment) -> Stretc
             shown: 0,
         },
         Stamp::Zoned(_) => zones.zone_of(time).stretch(local),
+    }
+}
+
+/// The spans of the clock of a time about a local, given by its seconds, and some days on. There are none for a date and in UTC.
+fn spans_at(zones: FileZones<'_>, time: Time, local: Moment) -> Option<Spans>
+    requires time { IsTimeOf zones.zones.now time }
+    requires local { IsMoment local }
+    ensures { AreSpansOf (clock_of (clocks_in zones.entry) time) result }
+{
+    match time.stamp {
+        Stamp::Date(_) | Stamp::Utc(_) => None,
+        Stamp::Floating(_) => zones.display.spans(local),
+        Stamp::Zoned(_) => zones.zone_of(time).spans(local),
+    }
+}
+
+/// A stretch about a local, given by its seconds, by spans that are kept. None if they were not made for it.
+fn told_by(spans: &Option<Spans>, local: Moment) -> Option<Stretch>
+    requires { IsMoment local }
+    ensures { (clock : Clock) → AreSpansOf clock spans.now → IfSome result (IsStretched clock) }
+{
+    match spans {
+        Some(kept) if kept.are_near(local) => Some(kept.stretch(local)),
+        _ => None,
+    }
+}
+
+/// Whether a stretch holds a local, given by its seconds, and reaches so far past it that spans would save few questions.
+fn is_far(stretch: Stretch, local: Moment) -> bool
+    requires { IsMoment local }
+{
+    is_in(stretch, local) && local + FAR <= stretch.to
+}
+
+/// The one of two stretches that holds a local, given by its seconds, and reaches further.
+fn further(told: Stretch, other: Stretch, local: Moment) -> Stretch
+    ensures { (clock : Clock) → IsStretched clock told → IsStretched clock other → IsStretched clock result }
+{
+    if is_in(other, local) && (told.to < other.to || !is_in(told, local)) {
+        other
+    } else {
+        told
+    }
+}
+
+/// A stretch about a local, given by its seconds, that the clock of a time tells or, where that is not far, new spans. They are kept then.
+fn stretch_anew(
+    zones: FileZones<'_>,
+    time: Time,
+    spans: &mut Option<Spans>,
+    local: Moment,
+) -> Stretch
+    requires time { IsTimeOf zones.zones.now time }
+    requires local { IsMoment local }
+    requires spans { AreSpansOf (clock_of (clocks_in zones) time) spans.old }
+    ensures spans { AreSpansOf (clock_of (clocks_in zones.entry) time) spans.new }
+    ensures stretch { IsStretched (clock_of (clocks_in zones.entry) time) result }
+{
+    let told = stretch(zones, time, local);
+    if is_far(told, local) {
+        return told;
+    }
+    *spans = spans_at(zones, time, local);
+    match told_by(spans, local) {
+        None => told,
+        Some(other) => further(told, other, local),
+    }
+}
+
+/// A stretch about a local, given by its seconds: by spans that are kept, if they were made for it. Where these do not hold it, and where they were
+/// made for others, the clock of the time is asked.
+pub(crate) fn stretch_by(
+    zones: FileZones<'_>,
+    time: Time,
+    spans: &mut Option<Spans>,
+    local: Moment,
+) -> Stretch
+    requires time { IsTimeOf zones.zones.now time }
+    requires local { IsMoment local }
+    requires spans { AreSpansOf (clock_of (clocks_in zones) time) spans.old }
+    ensures spans { AreSpansOf (clock_of (clocks_in zones.entry) time) spans.new }
+    ensures stretch { IsStretched (clock_of (clocks_in zones.entry) time) result }
+{
+    match told_by(spans, local) {
+        None => stretch_anew(zones, time, spans, local),
+        Some(kept) if is_in(kept, local) => kept,
+        Some(_) => stretch(zones, time, local),
     }
 }
 

@@ -1,16 +1,16 @@
 //! The length of an event.
-ghost use Rattle.std.specs.Prelude.{◌≡◌, ◌≤ℤ◌, pos};
-ghost use Rattle.ics_event.specs.Event.{longest, IsLength};
+ghost use Rattle.std.specs.Prelude.{◌≡◌, ◌≤ℤ◌, pos, IfSome};
+ghost use Rattle.ics_event.specs.Event.{longest, IsLasting, IsLength};
 ghost use Rattle.ics_fields.specs.Locals.{midnight};
 ghost use Rattle.ics_listing.specs.FileClocks.{day_of};
-ghost use Rattle.ics_starts.specs.Finish.{days_lasting, seconds_by, seconds_lasting};
+ghost use Rattle.ics_starts.specs.Finish.{days_lasting, seconds_by, seconds_lasting, AreLasting};
 ghost use Rattle.ics_starts.specs.FileZones.{clocks_in, EndsNear, IsEndOf, IsOwnEvent, IsTimeOf};
 ghost use Rattle.ics_listing.specs.WindowBounds.{lasts_most};
 
 use crate::instants::instant;
 use crate::zones::FileZones;
 use ics_event::{Event, Length, Time};
-use ics_values::Stamp;
+use ics_values::{Duration, Stamp};
 
 const DAY: i64 = 86_400;
 
@@ -62,5 +62,20 @@ fn seconds_by(zones: FileZones<'_>, first: Time, length: Length) -> i64
         (_, Length::Open) => 0,
         (_, Length::Until(end)) => (instant(zones, end) - instant(zones, first)).max(0),
         (_, Length::Lasting(duration)) => duration.days as i64 * DAY + duration.seconds as i64,
+    }
+}
+
+/// The duration by which occurrences by the rule of an event end, if its clock can make them end later than its seconds tell.
+pub(crate) fn lasting_by(zones: FileZones<'_>, event: &Event) -> Option<Duration>
+    requires { IsOwnEvent zones event.now }
+    ensures short { IfSome result IsLasting }
+    ensures lasting { IfSome result (AreLasting (clocks_in zones.entry) event.now) }
+{
+    match event.start.stamp {
+        Stamp::Date(_) | Stamp::Utc(_) => None,
+        Stamp::Floating(_) | Stamp::Zoned(_) => match event.length {
+            Length::Open | Length::Until(_) => None,
+            Length::Lasting(duration) => Some(duration),
+        },
     }
 }

@@ -12,27 +12,27 @@ ghost use Rattle.ics_starts.specs.Found.{start_at};
 ghost use Rattle.ics_starts.specs.RuleMarks.{IsBegun};
 ghost use Rattle.ics_starts.specs.Quiet.{beyond-prop, AreBeyond};
 ghost use Rattle.ics_listing.specs.Rising.{Rises, Rises-prop};
-ghost use Rattle.ics_starts.specs.Clocks.{clock_of, instant, IsStretched};
+ghost use Rattle.ics_starts.specs.Clocks.{clock_of, instant, AreSpansOf, IsStretched};
 ghost use Rattle.ics_starts.specs.RuleStarts.{gives, lets_until, midnight_number, read_from, settled_by, settled_from, with_held};
 ghost use Rattle.ics_starts.specs.RuleStarts.{AreHeld, HasLookedTo, IsReadTo};
 ghost use Rattle.ics_starts.specs.RuleStartLaws.{cursor-prop, held-prop, looked-prop, read-to-prop, rule-of-prop, stretched-prop, IsRuleOf};
 ghost use Rattle.ics_listing.specs.StartTimes.{local_of, time_at};
 ghost use Rattle.ics_starts.specs.Starts.{recurrence_of};
-ghost use Rattle.ics_starts.specs.FileZones.{clocks_in};
+ghost use Rattle.ics_starts.specs.FileZones.{clocks_in, IsTimeOf};
 ghost use Rattle.ics_listing.specs.Waiting.{starts_in};
 ghost use Rattle.ics_period.specs.PeriodNumbers.{rules_end};
 
 use crate::exclusion::Exclusions;
-use crate::instants::{bounds, instant_in, is_in, no_stretch, stretch};
+use crate::instants::{bounds, instant_in, is_in, no_stretch, stretch_by};
 use crate::listed::lesser_past;
 use crate::mark::{Mark, begun};
 use crate::starts::{end_nearby, is_until};
 use crate::zones::FileZones;
-use ics_event::Event;
+use ics_event::{Event, Time};
 use ics_listing::{Queue, Start, Waiting, Window, local_of, time_at};
 use ics_rule::{Cursor, Rule};
 use ics_values::{Local, Moment, Stamp};
-use ics_zone::{Bounds, Stretch};
+use ics_zone::{Bounds, Spans, Stretch};
 use std::alloc::{AllocError, Global};
 
 /// Kept locals that are nearer to one another than these seconds are worth a stretch.
@@ -63,6 +63,8 @@ pub(crate) struct RuleStarts<'a> {
     next: Moment,
     /// A stretch of locals that the clock of DTSTART shows by one offset.
     stretch: Stretch,
+    /// Spans of that clock near the locals that are read, if it told no stretch that is far.
+    spans: Option<Spans>,
     held: Queue,
     /// None of the locals read so far that are at the window's end or later is before this instant.
     beyond: Moment,
@@ -74,6 +76,7 @@ pub(crate) struct RuleStarts<'a> {
         event.now rule window (number from) (place_of cursor) beyond },
     ghost stretched: { IsStretched (clock_of (clocks_in zones) event.now.start) stretch } by { stretched-prop (clock_of (clocks_in zones) event.now.start)
         stretch },
+    ghost spanned: { AreSpansOf (clock_of (clocks_in zones) event.now.start) spans },
     ghost own: { IsCursorOf rule cursor } by { cursor-prop rule cursor },
     ghost looked: { HasLookedTo rule from asked cursor } by { looked-prop rule from asked cursor },
     ghost reached: { IsReadTo day asked end next (place_of cursor) } by { read-to-prop day asked end next (place_of cursor) },
@@ -185,12 +188,40 @@ fn shown_from(stretch: Stretch, next: Moment, moment: Moment) -> Moment
     stretch.to
 }
 
+/// A stretch by which a local, given by its seconds, is read: the known one or, if the clock is asked, another.
+fn stretch_at(
+    zones: FileZones<'_>,
+    time: Time,
+    known: Stretch,
+    spans: &mut Option<Spans>,
+    local: Moment,
+    asks: bool,
+) -> Stretch
+    requires time { IsTimeOf zones.zones.now time }
+    requires local { IsMoment local }
+    requires known { IsStretched (clock_of (clocks_in zones) time) known }
+    requires spans { AreSpansOf (clock_of (clocks_in zones) time) spans.old }
+    ensures spans { AreSpansOf (clock_of (clocks_in zones.entry) time) spans.new }
+    ensures stretch { IsStretched (clock_of (clocks_in zones.entry) time) result }
+{
+    if !asks {
+        return known;
+    }
+    let stretch = stretch_by(zones, time, spans, local);
+    if is_in(stretch, local) {
+        stretch
+    } else {
+        no_stretch(local + MINUTE)
+    }
+}
+
 impl<'a> RuleStarts<'a> {
-    ghost use Rattle.std.specs.Prelude.{◌≡◌, ◌+◌, ◌-◌, ◌<◌, ◌≤ℤ◌, ℕ, false, length, slice_get, IfOk, MatchOption, OnOk, Some};
+    ghost use Rattle.std.specs.Prelude.{◌≡◌, ◌+◌, ◌-◌, ◌-ℤ◌, ◌<◌, ◌≤ℤ◌, ℕ, false, length, slice_get, IfOk, MatchOption, OnOk, Some};
     ghost use Rattle.ics_rule.specs.Cursors.{steps_of};
     ghost use Rattle.ics_listing.specs.Listing.{IsIn};
     ghost use Rattle.ics_listing.specs.Merged.{cut};
-    ghost use Rattle.ics_starts.specs.RuleFeed.{held_in, is_unsettled, settled_in, starts_left, HasEnded, HasSameSource, HasSkipped, IsEarlier, IsPast};
+    ghost use Rattle.ics_starts.specs.RuleFeed.{held_in, is_unsettled, settled_in, starts_left, HasEnded, HasLeapt, HasSameSource, HasSkipped};
+    ghost use Rattle.ics_starts.specs.RuleFeed.{IsAmid, IsEarlier, IsPast};
     ghost use Rattle.ics_starts.specs.RuleStarts.{found, is_ready, steps_left, to_come};
     ghost use Rattle.ics_starts.specs.FileZones.{IsOwnEvent};
     ghost use Rattle.ics_starts.specs.RuleMarks.{IsCountMark};
@@ -236,13 +267,14 @@ impl<'a> RuleStarts<'a> {
             end,
             next,
             stretch: no_stretch(next),
+            spans: None,
             held: Queue::new(alloc),
             beyond: Moment::MAX,
         }
     }
 
     /// The first held start.
-    fn first(&self) -> Option<Start>
+    pub(crate) fn first(&self) -> Option<Start>
         ensures { result ≡ slice_get (held_in self.now) 0 }
     {
         let event = self.event;
@@ -296,23 +328,11 @@ impl<'a> RuleStarts<'a> {
         }
     }
 
-    /// A stretch by which a local that the rule keeps next, given by its seconds, is read: the known one or, where kept locals past it follow each
-    /// other closely on one day, another.
-    fn stretch_at(&self, local: Moment) -> Stretch
-        requires { IsMoment local }
-        ensures { IsStretched (clock_of (clocks_in self.now.zones) self.now.event.now.start) result }
-    {
+    /// Whether the clock is asked for a stretch about a local that the rule keeps next, given by its seconds: it is past the known one, and kept locals
+    /// follow each other closely on its day.
+    fn asks_at(&self, local: Moment) -> bool {
         let is_close = self.day < self.asked && local < self.next + CLOSE;
-        if !is_close || local < self.stretch.to {
-            return self.stretch;
-        }
-        let event = self.event;
-        let stretch = stretch(self.zones, event.start, local);
-        if is_in(stretch, local) {
-            stretch
-        } else {
-            no_stretch(local + MINUTE)
-        }
+        is_close && self.stretch.to <= local
     }
 
     /// Reads up to the next kept local but, if a start is held, not past the end of the day.
@@ -338,8 +358,16 @@ impl<'a> RuleStarts<'a> {
             }
             Some(local) => {
                 let seconds = local.seconds();
-                self.stretch = self.stretch_at(seconds);
                 let event = self.event;
+                let asks = self.asks_at(seconds);
+                self.stretch = stretch_at(
+                    self.zones,
+                    event.start,
+                    self.stretch,
+                    &mut self.spans,
+                    seconds,
+                    asks,
+                );
                 let time = time_at(event.start, local);
                 let moment = instant_in(self.zones, self.stretch, time);
                 let waiting = Waiting { moment, local };
@@ -385,22 +413,28 @@ impl<'a> RuleStarts<'a> {
         }
     }
 
-    /// The first of the starts still to come; None if there is none.
-    pub(crate) fn peek(&mut self) -> Result<Option<Start>, AllocError>
+    /// Reads up to the next local, if the first of the starts still to come is not known. Whether it was not.
+    pub(crate) fn read_next(&mut self) -> Result<bool, AllocError>
         ensures same { starts_left self.new ≡ starts_left self.old }
         ensures source { HasSameSource self.old self.new }
-        ensures first { IfOk result (λ given. given ≡ slice_get (starts_left self.new) 0) }
-        ensures ready { OnOk result (is_unsettled self.new ≡ false) }
+        ensures ready { IfOk result (λ more. more ≡ false → is_unsettled self.new ≡ false) }
+        ensures less { IfOk result (λ more. more ≡ true → steps_left self.new.day self.new.end (place_of self.new.cursor)
+            < steps_left self.old.day self.old.end (place_of self.old.cursor)) }
     {
-        while self.is_behind() {
-            self.read_on()?;
-            self.pass_end();
+        if !self.is_behind() {
+            return Ok(false);
         }
-        Ok(self.first())
+        self.read_on()?;
+        self.pass_end();
+        Ok(true)
     }
 
-    /// Drops the first of the starts still to come, if it is at the instant of this one. `peek` has
-    /// answered before.
+    /// Whether the rule keeps locals close to one another, of which another has to be read.
+    pub(crate) fn is_dense(&self) -> bool {
+        self.next < self.stretch.to && self.is_behind()
+    }
+
+    /// Drops the first of the starts still to come, if it is at the instant of this one. It is known.
     pub(crate) fn pass(&mut self, start: &Start)
         requires { is_unsettled self.old ≡ false }
         ensures left { starts_left self.new ≡ cut moment_cmp start.now (starts_left self.old) }
@@ -440,6 +474,7 @@ impl<'a> RuleStarts<'a> {
         ensures on { place_of self.old.cursor ≤ place_of self.new.cursor }
         ensures passed { (n : ℕ) → place_of self.old.cursor ≤ n → n < place_of self.new.cursor → pos n <ℤ (to +ℤ pos (year_number 1_970)) }
         ensures source { HasSameSource self.old self.new }
+        ensures day { self.new.day ≡ self.old.day }
     {
         let end = self.end_before(self.window.to);
         let last = to.min(end);
@@ -469,6 +504,46 @@ impl<'a> RuleStarts<'a> {
         // The instant of a local is not before the local less the greatest offset.
         if self.next - most < before {
             let to = self.end_before(before);
+            self.pass_to(to);
+        }
+    }
+
+    /// The instant of the next local, if a stretch shows it.
+    pub(crate) fn next_shown(&self) -> Moment
+        ensures { result ≡ self.now.next -ℤ self.now.stretch.offset }
+    {
+        self.next - self.stretch.offset
+    }
+
+    /// The stretch of locals that is known.
+    pub(crate) fn known_stretch(&self) -> Stretch
+        ensures { result ≡ self.now.stretch }
+    {
+        self.stretch
+    }
+
+    /// The end, in seconds, of the next locals that a stretch shows from an instant on and before another.
+    fn end_between(&self, from: Moment, to: Moment) -> Moment
+        requires { IsWithin 1_000_000_000_000 to }
+        ensures { (n : ℕ) → place_of self.now.cursor ≤ n → pos n <ℤ (result +ℤ pos (year_number 1_970)) → IsAmid from to self.now n }
+    {
+        let event = self.event;
+        match event.start.stamp {
+            Stamp::Date(_) => self.next,
+            _ => {
+                let early = shown_before(self.stretch, self.next, to);
+                early.min(shown_from(self.stretch, self.next, from))
+            }
+        }
+    }
+
+    /// Passes over the next locals that a stretch shows from an instant on and before another, up to the window's end. None of them is read.
+    pub(crate) fn pass_between(&mut self, from: Moment, to: Moment)
+        ensures { HasLeapt from to self.old self.new }
+    {
+        let before = to.min(self.window.to);
+        if self.next_shown() < before {
+            let to = self.end_between(from, before);
             self.pass_to(to);
         }
     }

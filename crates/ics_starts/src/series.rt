@@ -1,11 +1,15 @@
 //! The occurrences of one event that meet a window, found one by one.
-ghost use Rattle.std.specs.Prelude.{◌≡◌, ◌≤ℤ◌, slice_get, All, IfOk, List, MatchOption, None, OnOk};
-ghost use Rattle.ics_fields.specs.Locals.{number};
+ghost use Rattle.std.specs.Prelude.{◌≡◌, ◌<◌, ◌≤ℤ◌, ◌-ℤ◌, pos, false, slice_get, true, All, IfOk, List, MatchOption, None};
+ghost use Rattle.ics_event.specs.Event.{IsLasting};
+ghost use Rattle.ics_fields.specs.Locals.{number, year_seconds};
 ghost use Rattle.ics_listing.specs.Entry.{entry_cmp};
 ghost use Rattle.ics_starts.specs.EventLaws.{own-event-prop};
 ghost use Rattle.ics_starts.specs.Exclusions.{AreExclusions};
 ghost use Rattle.ics_listing.specs.StartOrder.{moment_cmp};
+ghost use Rattle.ics_starts.specs.Clocks.{clock_of, AreSpansOf, IsStretched};
+ghost use Rattle.ics_starts.specs.Finish.{AreLasting};
 ghost use Rattle.ics_starts.specs.Found.{IsStartIn};
+ghost use Rattle.ics_listing.specs.FileClocks.{Clock};
 ghost use Rattle.ics_listing.specs.Listing.{IsIn};
 ghost use Rattle.ics_starts.specs.RuleMarks.{IsBegun, IsMarkOf};
 ghost use Rattle.ics_starts.specs.Quiet.{AreQuiet};
@@ -13,15 +17,18 @@ ghost use Rattle.ics_listing.specs.Merged.{cut};
 ghost use Rattle.ics_listing.specs.Rising.{Rises, Rises-prop};
 ghost use Rattle.ics_starts.specs.RuleFeed.{starts_left};
 ghost use Rattle.ics_starts.specs.SeriesLaws.{first-given-prop, own-rule-prop, ruled-prop, starts-in-prop, taken-out-prop};
-ghost use Rattle.ics_starts.specs.SeriesStarts.{first_asked, first_given, first_of, given_of, left, listed_apart, rule_asked, rule_left, AreStartsIn, AreEnded};
-ghost use Rattle.ics_starts.specs.SeriesStarts.{AreSkipped, HasOwnRule, HasRuled, HasSameRule, IsFirstGiven, IsFirstOf, IsReady, IsRuleFrom};
+ghost use Rattle.ics_starts.specs.SeriesStarts.{first_asked, first_given, first_of, given_of, left, listed_apart, rule_asked, rule_left, rule_steps};
+ghost use Rattle.ics_starts.specs.SeriesStarts.{AreEnded, AreLeapt, AreSkipped, AreStartsIn, HasOwnRule, HasRuled, HasSameRule};
+ghost use Rattle.ics_starts.specs.SeriesStarts.{IsFirstGiven, IsFirstOf, IsReady, IsRuleFrom};
 ghost use Rattle.ics_listing.specs.KnownStarts.{listed_left};
 ghost use Rattle.ics_starts.specs.FileZones.{clocks_in, IsOwnEvent};
 ghost use Rattle.ics_listing.specs.declared.start.Start.{Start};
 
+use crate::ends::Ends;
 use crate::exclusion::Exclusions;
-use crate::instants::bounds;
+use crate::instants::{bounds, no_stretch};
 use crate::kind::kind_of;
+use crate::lasting::lasting_by;
 use crate::listed::{listed_again, push_listed};
 use crate::mark::{Mark, counted};
 use crate::occurrence::met_by;
@@ -31,7 +38,8 @@ use crate::zones::FileZones;
 use ics_event::Event;
 use ics_listing::{Begins, Coming, Feed, ListedStarts, Occurrence, Start, Window, local_of};
 use ics_rule::Rule;
-use ics_values::{Moment, Stamp};
+use ics_values::{Duration, Moment, Stamp};
+use ics_zone::Stretch;
 use std::alloc::{AllocError, Global};
 
 /// The occurrences of an event that meet a window and begin at an instant or later.
@@ -41,16 +49,18 @@ pub struct Series<'a> {
     event: &'a Event,
     window: Window,
     since: Moment,
-    // No start by the rule before this instant gives an occurrence. It is computed once a start gives none.
+    // No start by the rule before this instant gives an occurrence. It is computed where locals may be passed over.
     first: Option<Moment>,
     exclusions: Exclusions,
     rule_starts: Option<RuleStarts<'a>>,
     // The starts by RDATEs and, if there is no rule, the one at DTSTART.
     listed: ListedStarts,
+    ends: Ends,
     ghost first_is: { IsFirstGiven (clocks_in zones) window event.now since first } by { first-given-prop (clocks_in zones) window event.now since first },
     ghost own: { IsOwnEvent zones event.now } by { own-event-prop zones event.now },
     ghost taken_out: { AreExclusions (clocks_in zones) event.now window exclusions.instants.items exclusions.days.items } by { taken-out-prop (clocks_in zones)
         event.now window exclusions.instants.items exclusions.days.items },
+    ghost ends_are: { AreSpansOf (clock_of (clocks_in zones) event.now.start) ends.spans },
     ghost known: { AreStartsIn zones (left rule_starts listed) } by { starts-in-prop zones (left rule_starts listed) },
     // A start that the rule hides may come to light.
     ghost listed_known: { AreStartsIn zones (listed_left listed) } by { starts-in-prop zones (listed_left listed) },
@@ -119,16 +129,35 @@ fn starts_by_rule<'a>(
     Some(RuleStarts::new(alloc, zones, event, window, rule, from, mark))
 }
 
-/// The first of the starts that a rule still gives.
-fn peek_rule(rule: &mut Option<RuleStarts<'_>>) -> Result<Option<Start>, AllocError>
+/// Reads up to the next local of a rule, if the first of the starts that it still gives is not known. Whether it was not.
+fn read_rule(rule: &mut Option<RuleStarts<'_>>) -> Result<bool, AllocError>
     ensures same { rule_left rule.new ≡ rule_left rule.old }
     ensures rule { HasSameRule rule.old rule.new }
-    ensures first { IfOk result (λ given. given ≡ slice_get (rule_left rule.new) 0) }
-    ensures ready { OnOk result (IsReady rule.new) }
+    ensures ready { IfOk result (λ more. more ≡ false → IsReady rule.new) }
+    ensures less { IfOk result (λ more. more ≡ true → rule_steps rule.new < rule_steps rule.old) }
 {
     match rule {
-        None => Ok(None),
-        Some(starts) => starts.peek(),
+        None => Ok(false),
+        Some(starts) => starts.read_next(),
+    }
+}
+
+/// The first of the starts that a rule still gives. It is known.
+fn first_of_rule(rule: &Option<RuleStarts<'_>>) -> Option<Start>
+    requires { IsReady rule.now }
+    ensures { result ≡ slice_get (rule_left rule.now) 0 }
+{
+    match rule {
+        None => None,
+        Some(starts) => starts.first(),
+    }
+}
+
+/// Whether a rule keeps locals close to one another, of which another has to be read.
+fn is_dense(rule: &Option<RuleStarts<'_>>) -> bool {
+    match rule {
+        None => false,
+        Some(starts) => starts.is_dense(),
     }
 }
 
@@ -159,6 +188,36 @@ fn pass_rule_before(rule: &mut Option<RuleStarts<'_>>, moment: Moment)
 {
     if let Some(starts) = rule {
         starts.pass_before(moment);
+    }
+}
+
+/// Passes over the next locals of a rule that a stretch shows from an instant on and before another.
+fn pass_rule_between(rule: &mut Option<RuleStarts<'_>>, from: Moment, to: Moment)
+    ensures { AreLeapt from to rule.old rule.new }
+{
+    if let Some(starts) = rule {
+        starts.pass_between(from, to);
+    }
+}
+
+/// The instant of a rule's next local, if a stretch shows it.
+fn next_shown(rule: &Option<RuleStarts<'_>>) -> Moment
+    ensures { (year_seconds 0 -ℤ pos 93_599) ≤ℤ result }
+{
+    match rule {
+        None => Moment::MAX,
+        Some(starts) => starts.next_shown(),
+    }
+}
+
+/// The stretch of locals that is known to a rule.
+fn known_stretch(rule: &Option<RuleStarts<'_>>) -> Stretch
+    ensures { MatchOption rule.now ((clock : Clock) → IsStretched clock result)
+        (λ s. IsStretched (clock_of (clocks_in s.zones) s.event.now.start) result) }
+{
+    match rule {
+        None => no_stretch(0),
+        Some(starts) => starts.known_stretch(),
     }
 }
 
@@ -213,7 +272,7 @@ fn rule_quiet(rule: &Option<RuleStarts<'_>>) -> Moment
 }
 
 impl<'a> Series<'a> {
-    ghost use Rattle.std.specs.Prelude.{◌≤◌, [], ◌∷◌, false, length, IfOk, Some};
+    ghost use Rattle.std.specs.Prelude.{◌<◌, ◌<ℤ◌, ◌≤◌, [], ◌∷◌, false, length, true, IfOk, OnOk, Some};
     ghost use Rattle.std.specs.Option.{option_map};
     ghost use Rattle.ics_listing.specs.Entry.{Entry, entry_of};
     ghost use Rattle.ics_starts.specs.Quiet.{IsQuietTo};
@@ -251,17 +310,32 @@ impl<'a> Series<'a> {
             exclusions,
             rule_starts,
             listed: ListedStarts::new(alloc, listed)?,
+            ends: Ends::new(),
         })
     }
 
-    /// The first start still to come.
-    fn peek(&mut self) -> Result<Option<Start>, AllocError>
+    /// Reads up to the rule's next local, if the first of the starts that it still gives is not known. Whether it was not.
+    fn read_next(&mut self) -> Result<bool, AllocError>
         ensures left { series_left self.new ≡ series_left self.old }
+        ensures same { IsSameSeries self.old self.new }
+        ensures ready { IfOk result (λ more. more ≡ false → IsReady self.new.rule_starts) }
+        ensures less { IfOk result (λ more. more ≡ true → rule_steps self.new.rule_starts < rule_steps self.old.rule_starts) }
+    {
+        read_rule(&mut self.rule_starts)
+    }
+
+    /// The first start still to come. Where the rule keeps locals close to one another, those that it need not be read for are passed over.
+    fn peek(&mut self) -> Result<Option<Start>, AllocError>
+        ensures coming { series_of self.new (series_left self.new) ≡ series_of self.old (series_left self.old) }
+        ensures fewer { length (series_left self.new) ≤ length (series_left self.old) }
         ensures same { IsSameSeries self.old self.new }
         ensures first { IfOk result (λ first. IsFirstOf first (rule_left self.new.rule_starts) (listed_left self.new.listed)) }
         ensures ready { OnOk result (IsReady self.new.rule_starts) }
     {
-        let ruled = peek_rule(&mut self.rule_starts)?;
+        while self.read_next()? {
+            self.skip_dense();
+        }
+        let ruled = first_of_rule(&self.rule_starts);
         Ok(earlier_of(ruled, self.listed.peek()))
     }
 
@@ -326,9 +400,24 @@ impl<'a> Series<'a> {
         ensures coming { series_of self.new (series_left self.new) ≡ series_of self.old (series_left self.old) }
         ensures fewer { length (series_left self.new) ≤ length (series_left self.old) }
         ensures same { IsSameSeries self.old self.new }
+        ensures steps { rule_steps self.new.rule_starts ≤ rule_steps self.old.rule_starts }
     {
         self.skip_ended();
+        self.skip_over();
         self.skip_removed();
+    }
+
+    /// Passes over such locals where the rule keeps locals close to one another, of which another has to be read.
+    fn skip_dense(&mut self)
+        ensures coming { series_of self.new (series_left self.new) ≡ series_of self.old (series_left self.old) }
+        ensures fewer { length (series_left self.new) ≤ length (series_left self.old) }
+        ensures same { IsSameSeries self.old self.new }
+        ensures steps { rule_steps self.new.rule_starts ≤ rule_steps self.old.rule_starts }
+    {
+        if is_dense(&self.rule_starts) {
+            self.skip_shown();
+            self.skip();
+        }
     }
 
     /// The first instant at which a start by the rule can give an occurrence.
@@ -347,6 +436,7 @@ impl<'a> Series<'a> {
         ensures coming { series_of self.new (series_left self.new) ≡ series_of self.old (series_left self.old) }
         ensures fewer { length (series_left self.new) ≤ length (series_left self.old) }
         ensures same { IsSameSeries self.old self.new }
+        ensures steps { rule_steps self.new.rule_starts ≤ rule_steps self.old.rule_starts }
     {
         let first = self.first_given();
         let listed = listed_from(&self.listed);
@@ -354,11 +444,67 @@ impl<'a> Series<'a> {
         pass_rule_before(&mut self.rule_starts, first.min(listed));
     }
 
+    /// The same of the next locals in a stretch, between the starts that are known.
+    fn skip_shown(&mut self)
+        ensures coming { series_of self.new (series_left self.new) ≡ series_of self.old (series_left self.old) }
+        ensures fewer { length (series_left self.new) ≤ length (series_left self.old) }
+        ensures same { IsSameSeries self.old self.new }
+        ensures steps { rule_steps self.new.rule_starts ≤ rule_steps self.old.rule_starts }
+    {
+        let first = self.first_given();
+        let from = next_shown(&self.rule_starts);
+        let listed = self.listed.from(from);
+        self.first = Some(first);
+        pass_rule_between(&mut self.rule_starts, from, first.min(listed));
+    }
+
+    /// Passes over the next locals in a stretch whose occurrences have ended when the window begins, up to the next start that is known.
+    fn skip_over(&mut self)
+        ensures coming { series_of self.new (series_left self.new) ≡ series_of self.old (series_left self.old) }
+        ensures fewer { length (series_left self.new) ≤ length (series_left self.old) }
+        ensures same { IsSameSeries self.old self.new }
+        ensures steps { rule_steps self.new.rule_starts ≤ rule_steps self.old.rule_starts }
+    {
+        let from = next_shown(&self.rule_starts);
+        if self.window.from <= from {
+            return;
+        }
+        if let Some(duration) = lasting_by(self.zones, self.event) {
+            self.pass_over(duration, from);
+        }
+    }
+
+    /// The same of the locals from one on that a stretch shows at an instant, where each occurrence by the rule lasts a duration.
+    fn pass_over(&mut self, duration: Duration, from: Moment)
+        requires short { IsLasting duration }
+        requires lasting { AreLasting (clocks_in self.old.zones) self.old.event.now duration }
+        requires late { (year_seconds 0 -ℤ pos 93_599) ≤ℤ from }
+        requires begun { from <ℤ self.old.window.from }
+        ensures coming { series_of self.new (series_left self.new) ≡ series_of self.old (series_left self.old) }
+        ensures fewer { length (series_left self.new) ≤ length (series_left self.old) }
+        ensures same { IsSameSeries self.old self.new }
+        ensures steps { rule_steps self.new.rule_starts ≤ rule_steps self.old.rule_starts }
+    {
+        let event = self.event;
+        let shown = known_stretch(&self.rule_starts);
+        let over = self.ends.over_to(
+            self.zones,
+            event.start,
+            shown,
+            duration,
+            self.window.from,
+            from,
+        );
+        let listed = self.listed.from(from);
+        pass_rule_between(&mut self.rule_starts, from, over.min(listed));
+    }
+
     /// Passes over locals at which the clock shows a removed day.
     fn skip_removed(&mut self)
         ensures coming { series_of self.new (series_left self.new) ≡ series_of self.old (series_left self.old) }
         ensures fewer { length (series_left self.new) ≤ length (series_left self.old) }
         ensures same { IsSameSeries self.old self.new }
+        ensures steps { rule_steps self.new.rule_starts ≤ rule_steps self.old.rule_starts }
     {
         // Of dates no day is removed, but the instant of its midnight.
         let event = self.event;

@@ -97,7 +97,12 @@ pub(crate) fn first_given(
     requires { IsOwnEvent zones event.now }
     ensures { result ≡ first_given (clocks_in zones.entry) window.now event.now since }
 {
-    let first = first_met(zones, event, window) - rule_late(event);
+    let late = if window.notstarted {
+        0
+    } else {
+        rule_late(event)
+    };
+    let first = first_met(zones, event, window) - late;
     first.max(since)
 }
 

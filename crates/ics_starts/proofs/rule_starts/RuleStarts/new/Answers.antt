@@ -100,6 +100,7 @@ invariant_of-result c =
       past_end = subst (λ place. AreBeyond (clocks_in c.args.zones) c.args.event.now c.args.rule w (number c.args.from) place _)
           (sym c.begun-begun.ensures.begun.place) (beyond-begun (clocks_in c.args.zones) c.args.event.now c.args.rule w (number c.args.from) _);
       stretched = c.no_stretch.ensures _;
+      spanned = ∣ tt ∣₁;
       own = c.begun-begun.ensures.begun.own;
       looked = subst (λ d. HasLookedTo c.args.rule c.args.from d c.begun-begun.result) (sym asked) c.begun-begun.ensures.looked;
       reached = record {

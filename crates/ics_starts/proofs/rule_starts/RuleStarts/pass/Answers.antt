@@ -23,6 +23,7 @@ invariant_of-self c =
       are = λ t m. s.are t (in-drop t (held_in s) (subst (IsIn t) e m));
       past_end = s.past_end;
       stretched = s.stretched;
+      spanned = s.spanned;
       own = s.own;
       looked = s.looked;
       reached = s.reached;

@@ -38,6 +38,7 @@ returns-then-self-most c =
     let early : min.result ≤ℤ c.args.moment = omega (arith, ints, int_min_is, min.ensures.value, fits) in
     record {
       source = c.pass_to.ensures.source;
+      day = c.pass_to.ensures.day;
       on = c.pass_to.ensures.on;
       left = c.pass_to.ensures.left;
       each = λ n l u.
@@ -49,6 +50,7 @@ returns-then-self-most c =
 pub returns-else-self-most : goal.returns-else-self-most
 returns-else-self-most c = record {
   source = record { zones = refl; event = refl; window = refl; rule = refl; from = refl; end = refl };
+  day = refl;
   on = omega arith;
   left = refl;
   each = λ n l u. absurd (omega (arith, l, u));

@@ -70,6 +70,7 @@ invariant_of-self c =
       are = s.are;
       past_end = beyond-past s (λ n l u. (past.ensures n l (omega (arith, ints, l, u, place, at, seconds, before))).second);
       stretched = s.stretched;
+      spanned = s.spanned;
       own = c.pass.ensures.own;
       looked = λ before m. c.pass.ensures.looked _ before (s.looked before m);
       reached = record {

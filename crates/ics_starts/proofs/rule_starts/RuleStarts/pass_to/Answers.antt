@@ -58,6 +58,7 @@ invariant_of-self c =
           let moment = end.ensures.early n l (omega (arith, ints, l, u, place, at, seconds, before)) in
           omega (arith, ints, moment, window-back s));
       stretched = s.stretched;
+      spanned = s.spanned;
       own = c.pass.ensures.own;
       looked = λ before m. c.pass.ensures.looked _ before (s.looked before m);
       reached = record {
@@ -90,6 +91,7 @@ returns-then-self-last c =
       on = omega (arith, place);
       passed = λ n l u. omega (arith, ints, l, u, place, at, seconds, before);
       source = record { zones = refl; event = refl; window = refl; rule = refl; from = refl; end = refl };
+      day = refl;
     }
 
 pub returns-else-self-last : goal.returns-else-self-last
@@ -98,4 +100,5 @@ returns-else-self-last c = record {
   on = omega arith;
   passed = λ n l u. absurd (omega (arith, l, u));
   source = record { zones = refl; event = refl; window = refl; rule = refl; from = refl; end = refl };
+  day = refl;
 }

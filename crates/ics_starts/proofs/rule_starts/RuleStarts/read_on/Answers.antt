@@ -1,12 +1,15 @@
-use Rattle.std.proofs.Common.{◌≡◌, ◌∙◌, refl, sym, ap, subst, arith, rules, w64, SFits}
+use Rattle.std.proofs.Common.{◌≡◌, ◌∙◌, Option, refl, sym, ap, subst, arith, rules, w64, SFits}
 use Rattle.std.proofs.lemmas.Int.{ints}
 use Rattle.ics_event.specs.Event.{Time}
 use Rattle.ics_event.specs.declared.event.Event.{Event}
 use Rattle.ics_listing.specs.StartOrder.{moment_cmp}
 use Rattle.ics_listing.specs.StartTimes.{time_at}
 use Rattle.ics_listing.specs.Rising.{Rises}
-use Rattle.ics_starts.specs.Clocks.{clock_of, instant, IsStretched}
+use Rattle.ics_starts.specs.Clocks.{clock_of, instant, AreSpansOf, IsStretched}
 use Rattle.ics_starts.specs.RuleStarts.{AreHeld}
+use Rattle.ics_starts.specs.declared.rule_starts.RuleStarts.{RuleStarts}
+use Rattle.ics_zone.specs.declared.spans.Spans.{Spans}
+use Rattle.ics_zone.specs.declared.stretch.Stretch.{Stretch}
 use Rattle.ics_starts.specs.FileZones.{clocks_in, IsTimeOf}
 use Rattle.ics_starts.specs.RuleFeed.{held_in}
 use Rattle.ics_listing.specs.Waiting.{starts_in}
@@ -14,6 +17,15 @@ use Rattle.ics_starts.proofs.QuietLemmas.{beyond-none, beyond-one}
 use Rattle.ics_starts.proofs.RuleStepLemmas.{bound-days, bound-early, none-read, one-moment, one-read, one-time}
 use Rattle.ics_starts.proofs.StretchLemmas.{stretched-at}
 use Rattle.ics_starts.proofs.rule_starts.RuleStarts.read_on.Goals as goal
+
+-- what is known of the clock of an event as it is seen is known of that of the event
+told-known : (s : RuleStarts) {v : Event} {stretch : Stretch} → v ≡ s.event.now → IsStretched (clock_of (clocks_in s.zones) v.start) stretch
+    → IsStretched (clock_of (clocks_in s.zones) s.event.now.start) stretch
+told-known s {stretch = stretch} is h = subst (λ (v : Event). IsStretched (clock_of (clocks_in s.zones) v.start) stretch) is h
+
+spans-known : (s : RuleStarts) {v : Event} (spans : Option Spans) → v ≡ s.event.now → AreSpansOf (clock_of (clocks_in s.zones) v.start) spans
+    → AreSpansOf (clock_of (clocks_in s.zones) s.event.now.start) spans
+spans-known s spans is h = subst (λ (v : Event). AreSpansOf (clock_of (clocks_in s.zones) v.start) spans) is h
 
 pub invariant_of-self-in-Break-1 : goal.invariant_of-self-in-Break-1
 invariant_of-self-in-Break-1 c =
@@ -24,7 +36,8 @@ invariant_of-self-in-Break-1 c =
       rises = subst (Rises moment_cmp) (sym same) s.rises;
       are = subst (AreHeld (clocks_in s.zones) s.event.now s.rule s.window s.asked) (sym same) s.are;
       past_end = s.past_end;
-      stretched = c.stretch_at-self.ensures;
+      stretched = told-known s c.event.view_is c.stretch_at-self.ensures.stretch;
+      spanned = spans-known s _ c.event.view_is c.stretch_at-self.ensures.spans;
       own = s.own;
       looked = s.looked;
       reached = s.reached;
@@ -52,26 +65,43 @@ invariant_of-self c =
       are = r.are;
       past_end = beyond-none s c.in-None.ensures.next;
       stretched = s.stretched;
+      spanned = s.spanned;
       own = c.in-None.ensures.own;
       looked = λ before m. c.in-None.ensures.looked _ before (omega (arith, r.before, m)) (s.looked before (omega (arith, r.before, m)));
       reached = r.reached;
       early = s.early;
     }
 
-pub stretch_at-self-requires : goal.stretch_at-self-requires
-stretch_at-self-requires c =
+pub stretch_at-self-requires-clause-time : goal.stretch_at-self-requires-clause-time
+stretch_at-self-requires-clause-time c =
+    let s = c.args.self.now in
+    subst (λ (v : Event). IsTimeOf s.zones.zones.now v.start) (sym c.event.view_is) s.rule_of.time
+
+pub stretch_at-self-requires-clause-local : goal.stretch_at-self-requires-clause-local
+stretch_at-self-requires-clause-local c =
     let b = c.bound-bound in
     let fits : SFits w64 c.seconds-seconds.result = search rules in
     let years =
     one-moment c.args.self.now b.type_inv b.ensures.later b.ensures.within c.at-to.ensures c.in-Some.local c.in-Some.ensures.day c.in-Some.ensures.next in
     (omega (arith, ints, c.seconds-seconds.ensures, years), omega (arith, ints, c.seconds-seconds.ensures, years))
 
+pub stretch_at-self-requires-clause-known : goal.stretch_at-self-requires-clause-known
+stretch_at-self-requires-clause-known c =
+    let s = c.args.self.now in
+    subst (λ (v : Event). IsStretched (clock_of (clocks_in s.zones) v.start) s.stretch) (sym c.event.view_is) s.stretched
+
+pub stretch_at-self-requires-clause-spans : goal.stretch_at-self-requires-clause-spans
+stretch_at-self-requires-clause-spans c =
+    let s = c.args.self.now in
+    subst (λ (v : Event). AreSpansOf (clock_of (clocks_in s.zones) v.start) s.spans) (sym c.event.view_is) s.spanned
+
 pub instant_in-moment-requires-clause-stretch : goal.instant_in-moment-requires-clause-stretch
 instant_in-moment-requires-clause-stretch c =
     let s = c.args.self.now in
     let is = c.time_at-time.ensures ∙ ap (λ (v : Event). time_at v.start c.in-Some.local) c.event.view_is in
+    let told = told-known s c.event.view_is c.stretch_at-self.ensures.stretch in
     subst (λ (t : Time). IsStretched (clock_of (clocks_in s.zones) t) c.stretch_at-self.result) (sym is)
-    (stretched-at (clocks_in s.zones) s.event.now.start c.in-Some.local c.stretch_at-self.result c.stretch_at-self.ensures)
+    (stretched-at (clocks_in s.zones) s.event.now.start c.in-Some.local c.stretch_at-self.result told)
 
 pub instant_in-moment-requires-clause-time : goal.instant_in-moment-requires-clause-time
 instant_in-moment-requires-clause-time c =
@@ -97,7 +127,8 @@ invariant_of-self-in-Some c =
       are = r.are;
       past_end = beyond-one s c.in-Some.local c.in-Some.ensures.next c.in-Some.ensures.day (omega (arith, ints, c.lesser_past-self.ensures.first))
           (λ past. let late = c.lesser_past-self.ensures.second (omega (arith, ints, past, moment)) in omega (arith, ints, late, moment));
-      stretched = c.stretch_at-self.ensures;
+      stretched = told-known s c.event.view_is c.stretch_at-self.ensures.stretch;
+      spanned = spans-known s _ c.event.view_is c.stretch_at-self.ensures.spans;
       own = c.in-Some.ensures.own;
       looked = λ before m. c.in-Some.ensures.looked _ before (omega (arith, r.before, m)) (s.looked before (omega (arith, r.before, m)));
       reached = r.reached;

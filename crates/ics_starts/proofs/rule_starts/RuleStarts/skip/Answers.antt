@@ -18,6 +18,7 @@ skips-to-requires-clause-shown c = c.args.self.now.stretched.shown_short
 pub returns-then-not-is_behind : goal.returns-then-not-is_behind
 returns-then-not-is_behind c = record {
   source = record { zones = refl; event = refl; window = refl; rule = refl; from = refl; end = refl };
+  day = refl;
   on = omega arith;
   left = refl;
   each = λ n l u. absurd (omega (arith, l, u));
@@ -30,6 +31,7 @@ returns c =
     let fits : SFits w64 c.skips-to.result = search rules in
     record {
       source = c.pass_to.ensures.source;
+      day = c.pass_to.ensures.day;
       on = c.pass_to.ensures.on;
       left = c.pass_to.ensures.left;
       each = λ n l u.

@@ -19,7 +19,7 @@ use Rattle.ics_listing.specs.declared.start.Start.{Start}
 use Rattle.ics_listing.specs.declared.window.Window.{Window}
 use Rattle.ics_starts.specs.declared.zones.FileZones.{FileZones}
 use Rattle.ics_listing.specs.FileClocks.{Clocks}
-use Rattle.ics_starts.specs.Clocks.{instant}
+use Rattle.ics_starts.specs.Clocks.{clock_of, instant}
 use Rattle.ics_listing.specs.Entry.{Entry, entry_cmp}
 use Rattle.ics_starts.specs.Found.{listed_from, start_at, start_by, AreStartsSince, IsSought, IsStart, IsStartIn}
 use Rattle.ics_listing.specs.StartOrder.{moment_cmp, AreFirsts, HasStart}
@@ -253,6 +253,7 @@ invariant_of-result c =
       first_is = tt;
       own = c.requires.own;
       taken_out = c.in_ok-exclusions.ensures;
+      ends_are = c.new-3.ensures (clock_of clocks event.start);
       known = λ s m. start-in c.args.zones w event c.requires.own s (starts.are s m);
       listed_known = λ s m. start-in c.args.zones w event c.requires.own s (start-apart c.args.zones w event event.rule s (firsts.are s m));
       ruled = rw since

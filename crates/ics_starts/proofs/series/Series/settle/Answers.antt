@@ -1,7 +1,7 @@
-use Rattle.std.proofs.Common.{◌≡◌, [], ◌∙◌, suc, length, None, inl, refl, rules, sym}
+use Rattle.std.proofs.Common.{◌≡◌, [], ◌∙◌, suc, length, None, inl, refl, rules}
 use Rattle.std.proofs.Common.{ap, arith}
 use Rattle.ics_starts.specs.SeriesFeed.{series_left, series_of}
-use Rattle.ics_starts.proofs.SameLemmas.{both-same, dropped, same-coming}
+use Rattle.ics_starts.proofs.SameLemmas.{both-same, dropped}
 use Rattle.ics_starts.proofs.series.Series.settle.Goals as goal
 
 pub can_give-requires : goal.can_give-requires
@@ -23,18 +23,16 @@ returns-clause-same c = both-same c.loop-start.invariant.same c.peek.ensures.sam
 
 pub loop-start-smaller : goal.loop-start-smaller
 loop-start-smaller c =
-    let one : length (series_left c.loop-start.self) ≡ suc (length (series_left c.pass.new.self)) =
-    ap length (sym c.peek.ensures.left ∙ c.pass.ensures.taken) in
-    omega (arith, one, c.skip.ensures.fewer)
+    let one : length (series_left c.peek.new.self) ≡ suc (length (series_left c.pass.new.self)) = ap length c.pass.ensures.taken in
+    omega (arith, one, c.peek.ensures.fewer, c.skip.ensures.fewer)
 
 pub loop-start-preserved : goal.loop-start-preserved
 loop-start-preserved c =
-    let peeked = same-coming c.loop-start.self c.peek.new.self c.peek.ensures.same c.peek.ensures.left in
     let none = c.can_give.ensures c.if-can_give.false in
     record {
       coming = c.skip.ensures.coming
           ∙ (dropped c.peek.new.self c.pass.new.self c.pass.ensures.same c.in-Some.start none c.pass.ensures.taken
-          ∙ (peeked ∙ c.loop-start.invariant.coming));
+          ∙ (c.peek.ensures.coming ∙ c.loop-start.invariant.coming));
       same = both-same c.loop-start.invariant.same (both-same c.peek.ensures.same (both-same c.pass.ensures.same c.skip.ensures.same));
     }
 

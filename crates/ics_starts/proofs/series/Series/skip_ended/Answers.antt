@@ -30,6 +30,7 @@ invariant_of-self c =
       first_is = moment-back c.first_given-first.result c.first_given-first.type_inv ∙ c.first_given-first.ensures;
       own = s.own;
       taken_out = s.taken_out;
+      ends_are = s.ends_are;
       known = k.known;
       listed_known = s.listed_known;
       ruled = k.ruled;
@@ -48,4 +49,5 @@ returns c =
       coming = k.coming;
       fewer = k.fewer;
       same = record { zones = refl; event = refl; window = refl; since = refl; rule = k.same };
+      steps = k.steps;
     }

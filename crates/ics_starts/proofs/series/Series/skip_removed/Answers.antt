@@ -17,6 +17,7 @@ invariant_of-self c =
       first_is = s.first_is;
       own = s.own;
       taken_out = s.taken_out;
+      ends_are = s.ends_are;
       known = k.known;
       listed_known = s.listed_known;
       ruled = k.ruled;
@@ -33,4 +34,5 @@ returns-in_default c =
       coming = k.coming;
       fewer = k.fewer;
       same = record { zones = refl; event = refl; window = refl; since = refl; rule = k.same };
+      steps = k.steps;
     }

@@ -3,7 +3,7 @@ use Rattle.std.proofs.Common.{◌≡◌, ◌∙◌, suc, length, option_map, Non
 use Rattle.ics_listing.specs.Entry.{entry_of}
 use Rattle.ics_listing.specs.Listing.{IsIn}
 use Rattle.ics_starts.specs.SeriesFeed.{series_left}
-use Rattle.ics_starts.proofs.SameLemmas.{both-same, dropped, same-coming, same-sources}
+use Rattle.ics_starts.proofs.SameLemmas.{both-same, dropped, same-sources}
 use Rattle.ics_starts.proofs.SeriesLemmas.{series-near}
 use Rattle.ics_starts.proofs.series.SeriesFeed.next.Goals as goal
 
@@ -15,30 +15,26 @@ pass-requires-clause-first c = rw c.in-Some.is at c.in_ok-start.ensures.first
 
 pub returns-in_err-start-clause-near : goal.returns-in_err-start-clause-near
 returns-in_err-start-clause-near c = λ o m.
-    let peeked = same-coming c.loop-start.self c.peek.new.self c.peek.ensures.same c.peek.ensures.left in
-    series-near c.peek.new.self o (subst (IsIn o) (sym (peeked ∙ c.loop-start.invariant.coming)) m)
+    series-near c.peek.new.self o (subst (IsIn o) (sym (c.peek.ensures.coming ∙ c.loop-start.invariant.coming)) m)
 
 pub returns-in-Some-wanted-clause-near : goal.returns-in-Some-wanted-clause-near
 returns-in-Some-wanted-clause-near c = λ o m.
-    let peeked = same-coming c.loop-start.self c.peek.new.self c.peek.ensures.same c.peek.ensures.left in
-    c.pass.ensures.near o (subst (IsIn o) (sym (peeked ∙ c.loop-start.invariant.coming)) m)
+    c.pass.ensures.near o (subst (IsIn o) (sym (c.peek.ensures.coming ∙ c.loop-start.invariant.coming)) m)
 
 pub loop-start-smaller : goal.loop-start-smaller
 loop-start-smaller c =
-    let one : length (series_left c.loop-start.self) ≡ suc (length (series_left c.pass.new.self)) =
-    ap length (sym c.peek.ensures.left ∙ c.pass.ensures.taken) in
-    omega (arith, one, c.skip.ensures.fewer)
+    let one : length (series_left c.peek.new.self) ≡ suc (length (series_left c.pass.new.self)) = ap length c.pass.ensures.taken in
+    omega (arith, one, c.peek.ensures.fewer, c.skip.ensures.fewer)
 
 pub loop-start-preserved : goal.loop-start-preserved
 loop-start-preserved c =
-    let peeked = same-coming c.loop-start.self c.peek.new.self c.peek.ensures.same c.peek.ensures.left in
     let same = both-same c.peek.ensures.same (both-same c.pass.ensures.same c.skip.ensures.same) in
     let none : c.wanted-wanted.result ≡ None = search rules in
     let unwanted = sym c.wanted-wanted.ensures ∙ ap (option_map entry_of) none in
     record {
       coming = c.skip.ensures.coming
           ∙ (dropped c.peek.new.self c.pass.new.self c.pass.ensures.same c.in-Some.start unwanted c.pass.ensures.taken
-          ∙ (peeked ∙ c.loop-start.invariant.coming));
+          ∙ (c.peek.ensures.coming ∙ c.loop-start.invariant.coming));
       sources = same-sources c.loop-start.self c.skip.new.self same ∙ c.loop-start.invariant.sources;
     }
 
