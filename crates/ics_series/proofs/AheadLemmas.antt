@@ -255,6 +255,11 @@ module _ (files : List FileSaid) (display : Clock) (w : Window) (day : ℤ) (o :
     a.is ∙ ap (λ xs. xs ++ a.later) {y = on_day day o ∷ today display w day rest} (rw (drawn, is-today) refl),
   )
 
+-- what is to come stays so where one list of nothing stands for another
+pub ahead-dropped : (files : List FileSaid) (display : Clock) (w : Window) (day : ℤ) {none empty : List Entry} → none ≡ [] → empty ≡ [] → (list : List OnDay)
+    → IsAheadOf files display w day none list → IsAheadOf files display w day empty list
+ahead-dropped files display w day none empty list = subst (λ xs. IsAheadOf files display w day xs list) (none ∙ sym empty)
+
 -- what holds in any case holds on an error
 pub on-err : {T E : Type 0} (P : Type 0) (r : Result T E) → P → OnErr r P
 on-err P (Ok _) h = tt
@@ -345,58 +350,80 @@ sum-grows f day n (suc m) l =
     (λ low. omega (arith, sum-grows f day n m (omega (arith, low)), sum-more f day m))
     (here-or-later n (suc m) l)
 
-module _ (s : Scope) (day : ℤ) (looked : ℕ) (before : IsLookedBefore s day looked) (begun : begin_day s.window s.after ≤ℤ day)
-    (sources : List Source) (are : AreDayMasters s day sources) (rise : Rises uid_cmp (recurring sources))
-    (coming : List Entry) (steps : ℕ) (few : (most : Recurring → ℕ) → ((m : Recurring) → IsIn m (recurring sources) → HasStepBound m coming (most m))
-    → steps ≤ sum_by most (recurring sources)) where
-  -- The masters of a day are within the bounds for the day.
-  module _ (masters : List Placed) (all : AreMasters s masters) where
-    bound-of : (most : Master → ℕ) → AreDayBounds s masters day most → (m : Recurring) → IsIn m (recurring sources) → HasStepBound m coming (most (master_of m))
-    bound-of most bounds m k =
+-- The masters of a day's agenda are within the bounds for the day, and what is looked at for them is.
+module _ (s : Scope) (day : ℤ) (sources : List Source) (are : AreDayMasters s day sources) (rise : Rises uid_cmp (recurring sources)) where
+  day-within-all : (most : Master → ℕ) (masters : List Placed) → AreMasters s masters
+      → sum_by most (map master_of (recurring sources)) ≤ sum_by most (masters_in s masters)
+  day-within-all most masters all =
+      sum-of-masters s.files s.display most (recurring sources) masters rise (day-masters s day (recurring sources) are) all
+
+  -- so before the next agenda, where no more was looked at than up to the day before
+  pub looked-before : {looked : ℕ} → ((masters : List Placed) (most : ℤ → Master → ℕ) (n : ℕ) → AreMasters s masters
+      → ((d : ℤ) → AreDayBounds s masters d (most d)) → (begin_day s.window s.after +ℤ pos n) ≡ day → looked ≤ most_in s masters most n)
+      → IsLookedBefore s day sources looked
+  looked-before few = λ masters most n all bounds is.
+      let f = λ (d : ℤ). sum_by (most d) (masters_in s masters) in
+      omega (arith, few masters most n all bounds is, day-within-all (most day) masters all, sum-more f (begin_day s.window s.after) n, ap f is)
+
+  module _ (coming : List Entry) (steps : ℕ) (few : (most : Recurring → ℕ) → ((m : Recurring) → IsIn m (recurring sources) → HasStepBound m coming (most m))
+      → steps ≤ sum_by most (recurring sources)) where
+    bound-of : (masters : List Placed) → AreMasters s masters → (most : Master → ℕ) → AreDayBounds s masters day most → (m : Recurring)
+        → IsIn m (recurring sources) → HasStepBound m coming (most (master_of m))
+    bound-of masters all most bounds m k =
         let of = all-in (IsDayMaster s day) (recurring sources) are m k in
         let near = bounds of.by ((all.exact of.by).1 of.is) m of.searched in
         wider-bound m {xs = []} (λ e none. absurd none) (subst (λ (x : Master). HasStepBound m [] (most x)) (sym of.searched.same) near)
 
-    day-most : (most : Master → ℕ) → AreDayBounds s masters day most → steps ≤ sum_by most (masters_in s masters)
-    day-most most bounds =
-        let own = few (λ m. most (master_of m)) (bound-of most bounds) in
-        let within = sum-of-masters s.files s.display most (recurring sources) masters rise (day-masters s day (recurring sources) are) all in
-        omega (arith, own, sum_by-map most master_of (recurring sources), within)
+    day-most : (masters : List Placed) → AreMasters s masters → (most : Master → ℕ) → AreDayBounds s masters day most
+        → steps ≤ sum_by most (map master_of (recurring sources))
+    day-most masters all most bounds =
+        let own = few (λ m. most (master_of m)) (bound-of masters all most bounds) in
+        omega (arith, own, sum_by-map most master_of (recurring sources))
 
-    none-past : last_near s.window <ℤ day → steps ≤ 0
-    none-past past =
-        let none = day-most (λ m. 0) (λ p k m searched. absurd (none-near s.window day m.window past searched.near)) in
-        omega (arith, none, sum_by-le (λ m. 0) 0 (masters_in s masters) (λ k d l. omega arith))
+    none-past : (masters : List Placed) → AreMasters s masters → last_near s.window <ℤ day → steps ≤ 0
+    none-past masters all past =
+        let none = day-most masters all (λ m. 0) (λ p k m searched. absurd (none-near s.window day m.window past searched.near)) in
+        omega (arith, none, sum_by-le (λ m. 0) 0 (map master_of (recurring sources)) (λ k d l. omega arith))
 
-  -- what was looked at up to a day and on it
-  with-day : (masters : List Placed) (most : ℤ → Master → ℕ) (n : ℕ) → AreMasters s masters → ((d : ℤ) → AreDayBounds s masters d (most d))
-      → day <ℤ (begin_day s.window s.after +ℤ pos n)
-      → looked + steps ≤ most_in s masters most n
-  with-day masters most n all bounds l =
-      let first = begin_day s.window s.after in
-      let k = unsigned_abs (day -ℤ begin_day s.window s.after) in
-      let f = λ (d : ℤ). sum_by (most d) (masters_in s masters) in
-      let is : (begin_day s.window s.after +ℤ pos (unsigned_abs (day -ℤ begin_day s.window s.after))) ≡ day = omega (arith, ints, begun) in
-      let so-far = before masters most k all bounds is in
-      let today = day-most masters all (most day) (bounds day) in
-      let same = ap (λ (d : ℤ). sum_by (most d) (masters_in s masters)) is in
-      let within : suc (unsigned_abs (day -ℤ begin_day s.window s.after)) ≤ n = omega (arith, ints, is, l) in
-      omega (arith, so-far, today, same, sum-more f first k, sum-grows f first (suc k) n within)
+    module _ (looked : ℕ) (before : IsLookedBefore s day sources looked) (begun : begin_day s.window s.after ≤ℤ day) where
+      -- what was looked at up to a day and on it
+      with-day : (masters : List Placed) (most : ℤ → Master → ℕ) (n : ℕ) → AreMasters s masters → ((d : ℤ) → AreDayBounds s masters d (most d))
+          → day <ℤ (begin_day s.window s.after +ℤ pos n)
+          → looked + steps ≤ most_in s masters most n
+      with-day masters most n all bounds l =
+          let first = begin_day s.window s.after in
+          let k = unsigned_abs (day -ℤ begin_day s.window s.after) in
+          let f = λ (d : ℤ). sum_by (most d) (masters_in s masters) in
+          let is : (begin_day s.window s.after +ℤ pos (unsigned_abs (day -ℤ begin_day s.window s.after))) ≡ day = omega (arith, ints, begun) in
+          let so-far = before masters most k all bounds is in
+          let today = day-most masters all (most day) (bounds day) in
+          let within : suc (unsigned_abs (day -ℤ begin_day s.window s.after)) ≤ n = omega (arith, ints, is, l) in
+          omega (arith, so-far, today, sum-grows f first (suc k) n within)
 
-  -- the days before a later one
-  pub looked-next : (next : ℤ) (more : ℕ) → day <ℤ next → more ≤ looked + steps → IsLookedBefore s next more
-  looked-next next more e l = λ masters most n all bounds is.
-      let days = with-day masters most n all bounds (omega (arith, ints, is, e)) in
-      omega (arith, days, l)
+      -- before a later day's agenda
+      pub looked-next : {next : ℤ} {more : ℕ} → day <ℤ next → more ≤ looked + steps → (masters : List Placed) (most : ℤ → Master → ℕ) (n : ℕ)
+          → AreMasters s masters → ((d : ℤ) → AreDayBounds s masters d (most d)) → (begin_day s.window s.after +ℤ pos n) ≡ next
+          → more ≤ most_in s masters most n
+      looked-next e l = λ masters most n all bounds is.
+          let days = with-day masters most n all bounds (omega (arith, ints, is, e)) in
+          omega (arith, days, l)
 
-  -- the days up to that of what is to come
-  pub steps-most : (last_near s.window <ℤ day → looked ≡ 0) → (list : List OnDay) {bound : ℕ} → (day ≤ℤ last_near s.window → day ≤ℤ first_under s.window list)
-      → HasDaysBound s list bound → looked + steps ≤ bound
-  steps-most past list reach h =
-      ⊎_elim
-      (λ far. omega (arith, past far, none-past h.masters h.are far))
-      (λ near. let low = reach near in omega (arith, with-day h.masters h.most h.days h.are h.each (omega (arith, ints, low, h.reach)), h.is))
-      (less_or_not_z (last_near s.window) day)
+      -- and once the day's own is dropped
+      pub looked-dropped : {same : ℤ} {more : ℕ} {none : List Source} → same ≡ day → none ≡ [] → more ≤ looked + steps → IsLookedBefore s same none more
+      looked-dropped {same = same} e empty l = λ masters most n all bounds is.
+          let days = with-day masters most (suc n) all bounds (omega (arith, ints, is, e)) in
+          let no-sum = ap (λ (xs : List Source). sum_by (most same) (map master_of (recurring xs))) empty in
+          omega (arith, days, l, no-sum)
+
+      -- the days up to that of what is to come
+      pub steps-most : (last_near s.window <ℤ day → looked ≡ 0) → (list : List OnDay) {bound : ℕ}
+          → (day ≤ℤ last_near s.window → day ≤ℤ first_under s.window list)
+          → HasDaysBound s list bound → looked + steps ≤ bound
+      steps-most past list reach h =
+          ⊎_elim
+          (λ far. omega (arith, past far, none-past h.masters h.are far))
+          (λ near. let low = reach near in omega (arith, with-day h.masters h.most h.days h.are h.each (omega (arith, ints, low, h.reach)), h.is))
+          (less_or_not_z (last_near s.window) day)
 
 -- The first of what is to come stands under the day or a later one.
 pub first-day : (w : Window) {day : ℤ} (xs : List Entry) (later : List OnDay) {list : List OnDay} → list ≡ map (on_day day) xs ++ later
@@ -421,6 +448,10 @@ pub begun-by : (w : Window) (after : Option DayRank) (day : ℤ) (key : Option R
     → begin_day w (option_map day_and_start after) ≤ℤ day
 begun-by w None day key h low = low
 begun-by w (Some a) day key h low = h.0
+
+-- where there are no sources, there are no masters
+pub no-masters : (s : Scope) (day : ℤ) {sources : List Source} → sources ≡ [] → AreDayMasters s day sources
+no-masters s day e = rw e tt
 
 -- the masters of the first day's agenda
 pub first-masters : (s : Scope) {day : ℤ} {key : Option Rank} {coming : List Entry} {sources : List Source}

@@ -18,3 +18,4 @@ pub mod MoveLemmas
 pub mod WholeLemmas
 pub mod WindowLemmas
 pub mod KeptLemmas
+pub mod ShownLemmas

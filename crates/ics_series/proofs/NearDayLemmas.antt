@@ -111,28 +111,25 @@ day-rises a b l =
     let high = day-under b (day_of_local b) refl in
     omega (arith, ints, low.0, low.1, high.0, high.1, l)
 
--- The days that a clock shows in a window lie between that of its first instant, by the least of the clock's offsets, and that of its last, by
--- the greatest.
-module _ (w : Window) {day seconds : ℤ} (is : day ≡ day_of_local seconds) where
-  pub first-shown : (clock : Clock) (least : ℤ) → seconds ≡ w.from +ℤ least → (t : ℤ) → least ≤ℤ clock.offset t → w.from ≤ℤ t → day ≤ℤ date_at clock t
-  first-shown clock least at t low from =
-      let rise = day-rises seconds (local_at clock t) (omega (arith, ints, at, low, from)) in omega (arith, ints, is, rise)
+-- The days that a clock shows in a window lie between that of a local before which it shows none there, and that of one after which it shows none.
+module _ {day seconds : ℤ} (is : day ≡ day_of_local seconds) where
+  pub first-shown : (clock : Clock) (t : ℤ) → seconds ≤ℤ local_at clock t → day ≤ℤ date_at clock t
+  first-shown clock t low = let rise = day-rises seconds (local_at clock t) low in omega (arith, ints, is, rise)
 
-  pub last-shown : (clock : Clock) (most : ℤ) → seconds ≡ (w.to -ℤ pos 1) +ℤ most → (t : ℤ) → clock.offset t ≤ℤ most → t <ℤ w.to → date_at clock t ≤ℤ day
-  last-shown clock most at t high to =
-      let rise = day-rises (local_at clock t) seconds (omega (arith, ints, at, high, to)) in omega (arith, ints, is, rise)
+  pub last-shown : (clock : Clock) (t : ℤ) → local_at clock t ≤ℤ seconds → date_at clock t ≤ℤ day
+  last-shown clock t high = let rise = day-rises (local_at clock t) seconds high in omega (arith, ints, is, rise)
 
-  pub first-within : (least : ℤ) → seconds ≡ w.from +ℤ least → (pos 0 -ℤ pos 93_599) ≤ℤ least → first_near w ≤ℤ day
-  first-within least at short =
-      let own = day-under seconds (day_of_local seconds) refl in
-      let from = day-under w.from (day_of_local w.from) refl in
-      omega (arith, ints, is, at, short, own.0, own.1, from.0, from.1)
+pub first-within : (w : Window) (seconds : ℤ) {day : ℤ} → day ≡ day_of_local seconds → (pos 0 -ℤ pos 172_799) ≤ℤ (seconds -ℤ w.from) → first_near w ≤ℤ day
+first-within w seconds is short =
+    let own = day-under seconds (day_of_local seconds) refl in
+    let from = day-under w.from (day_of_local w.from) refl in
+    omega (arith, ints, is, short, own.0, own.1, from.0, from.1)
 
-  pub last-within : (most : ℤ) → seconds ≡ (w.to -ℤ pos 1) +ℤ most → most ≤ℤ pos 93_599 → day ≤ℤ last_near w
-  last-within most at short =
-      let own = day-under seconds (day_of_local seconds) refl in
-      let last = day-under (w.to -ℤ pos 1) (day_of_local (w.to -ℤ pos 1)) refl in
-      omega (arith, ints, is, at, short, own.0, own.1, last.0, last.1)
+pub last-within : (w : Window) (seconds : ℤ) {day : ℤ} → day ≡ day_of_local seconds → (seconds -ℤ (w.to -ℤ pos 1)) ≤ℤ pos 172_799 → day ≤ℤ last_near w
+last-within w seconds is short =
+    let own = day-under seconds (day_of_local seconds) refl in
+    let last = day-under (w.to -ℤ pos 1) (day_of_local (w.to -ℤ pos 1)) refl in
+    omega (arith, ints, is, short, own.0, own.1, last.0, last.1)
 
 -- What is shown under a day before that of the window's first instant begins after it.
 pub begins-later : (clock : Clock) (w : Window) (o : Entry) {day : ℤ} → is_on clock w o day ≡ true → day <ℤ date_at clock w.from → w.from <ℤ o.start

@@ -1,14 +1,12 @@
 -- The overrides among the versions that count, and what they name.
-use Rattle.std.proofs.Common.{◌≡◌, ℕ, ◌+◌, ℤ, ◌||◌, List, [], ◌∷◌, map, length, get_or, Option, Some, None, Result, Bool, true, false}
-use Rattle.std.proofs.Common.{refl, sym, ◌∙◌, ap, subst, arith, is_ok, filter}
-use Rattle.std.proofs.Common.{is_eq, is_lt, nat_cmp, Ordering, Less}
-use Rattle.std.specs.Cmp.{IsTotalOrder}
+use Rattle.std.proofs.Common.{◌≡◌, ℕ, ℤ, ◌||◌, List, [], ◌∷◌, map, length, Option, Some, None, Result, Bool, true, false}
+use Rattle.std.proofs.Common.{refl, sym, ◌∙◌, ap, subst, is_ok, filter}
+use Rattle.std.proofs.Common.{is_eq, nat_cmp, Ordering, Less}
 use Rattle.std.specs.List.{list_any}
 use Rattle.std.specs.List.Sorted.{IsBinarySearchResult, IsSearchInRange, IsSorted}
 use Rattle.std.specs.Cmp.Lexicographic.{slice_cmp}
-use Rattle.std.specs.Ordering.{on, ordering_reverse, ordering_then}
+use Rattle.std.specs.Ordering.{on, ordering_then}
 use Rattle.std.proofs.lemmas.Cmp.{on_total, tied_itself}
-use Rattle.std.proofs.lemmas.Map.Keys.{Less-from_sorted}
 use Rattle.ics_file.specs.File.{FileSaid}
 use Rattle.ics_series.specs.declared.version.Version.{Version}
 use Rattle.ics_series.specs.Chosen.{subject_of, IsOverridden, SubjectSeen}
@@ -18,16 +16,10 @@ use Rattle.ics_listing.specs.Rising.{Rises}
 use Rattle.ics_series.specs.Versions.{is_named, is_override, label_of, seen, subject_cmp, subject_seen, AreChosen, Label}
 use Rattle.ics_listing.proofs.Cases.{eq-Equal}
 use Rattle.ics_series.proofs.VersionLemmas.{in-map, map-in, exact-subject, subject_total}
-use Rattle.ics_listing.proofs.ListingLemmas.{strictly-sorted, any-in, in-any, search-finds, rises-on}
+use Rattle.ics_listing.proofs.ListingLemmas.{any-in, in-any, rises-on, rises-sorted, search-finds}
 use Rattle.ics_series.proofs.OccursLemmas.{override-subject}
 
 -- The versions that count are sorted by subject.
-module _ {A : Type 0} (R : A → A → Ordering) (o : IsTotalOrder R) where
-  pub rises-sorted : (xs : List A) → Rises R xs → IsSorted R xs
-  rises-sorted xs h = λ k d a b.
-      let less = Less-from_sorted R xs k (k + 1) d (strictly-sorted R o xs h) (omega arith) b in
-      ap is_lt (o.antisymm (get_or xs (k + 1) d) (get_or xs k d) ∙ ap ordering_reverse less)
-
 abbrev label_subject_cmp : Label → Label → Ordering
 label_subject_cmp = on (λ l. l.subject) subject_cmp
 

@@ -120,11 +120,11 @@ sum_days f day (suc n) = sum_days f day n + f (day +ℤ pos n)
 abbrev pub most_in : Scope → List Placed → (ℤ → Master → ℕ) → ℕ → ℕ
 most_in s masters most n = sum_days (λ day. sum_by (most day) (masters_in s masters)) (begin_day s.window s.after) n
 
--- the number of periods that were looked at on the days before this one is within all such bounds
-abbrev pub IsLookedBefore : Scope → ℤ → ℕ → Type 0
-IsLookedBefore s day looked =
+-- the number of periods that were looked at before a day's agenda is, with the bounds for the masters in that agenda, within all such bounds up to the day
+abbrev pub IsLookedBefore : Scope → ℤ → List Source → ℕ → Type 0
+IsLookedBefore s day sources looked =
     (masters : List Placed) (most : ℤ → Master → ℕ) (n : ℕ) → AreMasters s masters → ((d : ℤ) → AreDayBounds s masters d (most d))
-    → (begin_day s.window s.after +ℤ pos n) ≡ day → looked ≤ most_in s masters most n
+    → (begin_day s.window s.after +ℤ pos n) ≡ day → looked + sum_by (most day) (map master_of (recurring sources)) ≤ most_in s masters most (suc n)
 
 -- The bound for a listing of which this is still to come: of days in a row that begin with its first and reach that of the first to come
 pub record HasDaysBound (s : Scope) (list : List OnDay) (bound : ℕ) : Type 0 where

@@ -70,7 +70,8 @@ pub struct Days<'a> {
     ghost not_before: { first_near window ≤ℤ today.day },
     ghost begun: { begin_day window after ≤ℤ today.day },
     ghost masters: { ∥ AreDayMasters (scope_in (map said_by files.now) (display_clock display.now) window after) today.day (agenda_sources today.agenda) ∥₁ },
-    ghost before: { IsLookedBefore (scope_in (map said_by files.now) (display_clock display.now) window after) today.day today.looked },
+    ghost before: { IsLookedBefore (scope_in (map said_by files.now) (display_clock display.now) window after) today.day (agenda_sources today.agenda)
+        today.looked },
     ghost past: { last_near window <ℤ today.day → today.looked ≡ 0 },
     ghost shown: { (t : ℤ) → t <ℤ window.to → date_at (display_clock display.now) t ≤ℤ last },
     ghost within: { last ≤ℤ last_near window },
@@ -83,7 +84,7 @@ struct Today<'a> {
     day: i32,
     // What is still to come of what meets the window near it.
     agenda: Agenda<'a>,
-    // How many periods of rules were looked at for the days before.
+    // How many periods of rules were looked at for the days before and, once the agenda was dropped, for this one.
     looked: u64,
 }
 
@@ -186,6 +187,7 @@ impl<'a> Days<'a> {
             if self.last <= self.today.day {
                 return Ok(None);
             }
+            self.end_day()?;
             self.turn()?;
         }
     }
@@ -238,16 +240,40 @@ impl<'a> Days<'a> {
         Ok(None)
     }
 
-    /// Goes on to the next day on which something can be.
-    fn turn(&mut self) -> Result<(), AllocError>
+    /// Counts what was looked at for a day of which nothing more is to come, and drops its agenda, so that it
+    /// is not held while the next day's is made.
+    fn end_day(&mut self) -> Result<(), AllocError>
         requires more { self.old.today.day <ℤ self.old.last }
         requires none { agenda_coming self.old.today.agenda ≡ [] }
-        ensures day { OnOk result (self.old.today.day <ℤ self.new.today.day × (self.new.today.day ≤ℤ self.new.last)) }
+        ensures none { agenda_coming self.new.today.agenda ≡ [] }
+        ensures day { self.new.today.day ≡ self.old.today.day }
         ensures scope { scope_of self.new ≡ scope_of self.old }
         ensures last { self.new.last ≡ self.old.last }
         ensures counted { OnOk result (self.new.today.looked ≡ min (self.old.today.looked + agenda_looked self.old.today.agenda) (2 ^ 64 - 1)) }
-        ensures kept { OnErr result (self.new.today.looked ≡ self.old.today.looked) }
+        ensures dropped { OnOk result (agenda_looked self.new.today.agenda ≡ 0) }
+        ensures kept { OnErr result (self.new.today ≡ self.old.today) }
         ensures risen { self.old.today.looked ≤ self.new.today.looked }
+        ensures ahead { (list : List OnDay) → IsAhead self.old list → IsAhead self.new list }
+    {
+        let agenda = Agenda::ended(self.alloc)?;
+        let looked = self.today.looked.saturating_add(self.today.agenda.steps());
+        self.today = Today {
+            day: self.today.day,
+            agenda,
+            looked,
+        };
+        Ok(())
+    }
+
+    /// Goes on to the next day on which something can be. What was looked at for the day is counted.
+    fn turn(&mut self) -> Result<(), AllocError>
+        requires more { self.old.today.day <ℤ self.old.last }
+        requires none { agenda_coming self.old.today.agenda ≡ [] }
+        requires counted { agenda_looked self.old.today.agenda ≡ 0 }
+        ensures day { OnOk result (self.old.today.day <ℤ self.new.today.day × (self.new.today.day ≤ℤ self.new.last)) }
+        ensures scope { scope_of self.new ≡ scope_of self.old }
+        ensures last { self.new.last ≡ self.old.last }
+        ensures looked { self.new.today.looked ≡ self.old.today.looked }
         ensures ahead { (list : List OnDay) → IsAhead self.old list → IsAhead self.new list }
     {
         let day = next_day(&self.spans, &self.window, self.last, self.today.day);
@@ -264,11 +290,10 @@ impl<'a> Days<'a> {
             key,
             floor_of(&self.window),
         )?;
-        let looked = self.today.looked.saturating_add(self.today.agenda.steps());
         self.today = Today {
             day,
             agenda,
-            looked,
+            looked: self.today.looked,
         };
         Ok(())
     }

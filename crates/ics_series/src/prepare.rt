@@ -17,9 +17,11 @@ const SHORT: i64 = 120 * DAY;
 /// How long before a window an occurrence can end that is asked for.
 const LATE: i64 = 4 * DAY;
 
-/// Where an event asks for the offsets of its zone: near an instant, if that is before `from`, and from there on up to another.
-#[derive(Clone, Copy)]
+/// Where an event asks for the offsets of its zone: near an instant, if that is before `from`, and from there on up to another. Before all these some
+/// days about an earlier instant, if there is one.
+#[derive(Clone, Copy, PartialEq)]
 struct Asked {
+    begun: Moment,
     near: Moment,
     from: Moment,
     to: Moment,
@@ -34,17 +36,22 @@ pub(crate) fn prepare_each(files: &mut [FileEvents], window: &Window)
     }
 }
 
-/// Prepares the zones that the events of a file name.
+/// Prepares the zones that the events of a file name. Most events ask what the one before them asks.
 fn prepare_named(file: &mut FileEvents, window: &Window)
     ensures { file.new ≡ file.old }
 {
+    let mut last = None;
     for k in 0..file.events.len() {
-        if let Some(index) = file.events[k].start.zone {
-            let asked = asked_by(&file.events[k], window);
-            let begun = begun_before(&file.events[k], window);
-            if let Some(zone) = file.zones.get_mut(index as usize) {
-                prepare(zone, asked, begun);
-            }
+        let Some(index) = file.events[k].start.zone else {
+            continue;
+        };
+        let asked = (index, asked_by(&file.events[k], window));
+        if last == Some(asked) {
+            continue;
+        }
+        last = Some(asked);
+        if let Some(zone) = file.zones.get_mut(index as usize) {
+            prepare(zone, asked.1);
         }
     }
 }
@@ -53,9 +60,11 @@ fn prepare_named(file: &mut FileEvents, window: &Window)
 /// asks near its start, and one that recurs from its start on, if that is not before the window. It also asks near DTSTART if it has DTEND,
 /// since both tell how long each occurrence lasts.
 fn asked_by(event: &Event, window: &Window) -> Asked {
+    let begun = begun_before(event, window);
     let (from, to) = (window.from, window.to);
     if to <= from.saturating_add(SHORT) {
         return Asked {
+            begun,
             near: from,
             from,
             to,
@@ -64,6 +73,7 @@ fn asked_by(event: &Event, window: &Window) -> Asked {
     let near = local_of(event.start.stamp).seconds();
     if is_single(event) {
         return Asked {
+            begun,
             near,
             from: Moment::MAX,
             to,
@@ -71,14 +81,16 @@ fn asked_by(event: &Event, window: &Window) -> Asked {
     }
     let from = from.max(near);
     let to = to.min(recurs_to(event));
-    if matches!(event.length, Length::Until(_)) {
-        Asked { near, from, to }
+    let near = if matches!(event.length, Length::Until(_)) {
+        near
     } else {
-        Asked {
-            near: from,
-            from,
-            to,
-        }
+        from
+    };
+    Asked {
+        begun,
+        near,
+        from,
+        to,
     }
 }
 
@@ -117,12 +129,12 @@ fn recurs_to(event: &Event) -> Moment {
     (i64::from(day) + 3) * DAY
 }
 
-/// Prepares a zone where it is asked, and near another instant and some days before the first if that is earlier.
-fn prepare(zone: &mut Zone, asked: Asked, begun: Moment)
+/// Prepares a zone where it is asked.
+fn prepare(zone: &mut Zone, asked: Asked)
     ensures { zone.new ≡ zone.old }
 {
-    if begun < asked.near {
-        zone.reach(begun).ok();
+    if asked.begun < asked.near {
+        zone.reach(asked.begun).ok();
         zone.reach(asked.near.saturating_sub(LATE)).ok();
     }
     if asked.near < asked.from {

@@ -1,4 +1,4 @@
-use Rattle.std.proofs.Common.{◌≡◌, ◌≤ℤ◌, ◌-ℤ◌, ◌⊎◌, ◌||◌, inl, inr, ⊎_elim, Bool, ℤ, pos, Some, None, arith, refl, true, false, rules, if◌then◌else◌}
+use Rattle.std.proofs.Common.{◌≡◌, ◌≤ℤ◌, ◌-ℤ◌, ◌⊎◌, ◌||◌, inl, inr, ⊎_elim, Bool, pos, Some, None, arith, refl, true, false, rules, if◌then◌else◌}
 use Rattle.std.proofs.lemmas.Int.{ints}
 use Rattle.ics_starts.specs.Clocks.{display_clock}
 use Rattle.ics_series.specs.Inner.Spans.{floor_of, IsStartedBy}

@@ -10,7 +10,7 @@ use Rattle.ics_series.specs.DaySteps.{agenda_sources, scope_in}
 use Rattle.ics_listing.specs.Entry.{key_rank}
 use Rattle.ics_listing.specs.DayKeys.{first_near, day_key_rank}
 use Rattle.ics_series.specs.Versions.{seen}
-use Rattle.ics_series.proofs.AheadLemmas.{begun-ahead, begun-by, day-keys, first-masters, from-start}
+use Rattle.ics_series.proofs.AheadLemmas.{begun-ahead, begun-by, day-keys, first-masters, from-start, looked-before}
 use Rattle.ics_series.proofs.MarkLemmas.{marks-none}
 use Rattle.ics_series.proofs.SpanLemmas.{those-chosen}
 use Rattle.ics_series.proofs.WholeLemmas.{keys, masters-listed, whole}
@@ -56,6 +56,7 @@ invariant_of-result c =
     let spanned = rw c.deref.ensures.value at c.in_ok-spans.ensures in
     let first : first_near c.args.window ≤ℤ to_z w32 (of_z w32 c.begin-day.result.0) = omega (arith, ints, low, fits) in
     let from = rw (← c.day_and_start.ensures) at (from-start after (to_z w32 (of_z w32 c.begin-day.result.0)) key behind) in
+    let masters = first-masters scope from c.in_ok-agenda.ensures.agenda in
     record {
       chosen = those-chosen (map said_by c.args.files.now) (display_clock c.args.display.now) c.in_ok-versions.versions.items c.in_ok-versions.ensures.chosen;
       sized = c.agenda_of.ensures.size ∙ (ap length spanned ∙ (length-map _ _ ∙ length-map _ _));
@@ -63,8 +64,9 @@ invariant_of-result c =
       marked = rw c.deref-2.ensures.value at c.agenda_of.ensures.marks;
       not_before = first;
       begun = rw c.day_and_start.ensures (begun-by c.args.window after (to_z w32 (of_z w32 c.begin-day.result.0)) key behind first);
-      masters = ∣ first-masters scope from c.in_ok-agenda.ensures.agenda ∣₁;
-      before = λ masters most n all bounds is. omega arith;
+      masters = ∣ masters ∣₁;
+      before = looked-before scope (to_z w32 (of_z w32 c.begin-day.result.0)) (agenda_sources c.in_ok-agenda.agenda) masters
+          c.in_ok-agenda.agenda.apart.1.1 (λ all-masters most n all bounds is. omega arith);
       past = λ l. refl;
       shown = λ t to. subst (λ d. date_at (display_clock c.args.display.now) t ≤ℤ d) (sym last) (c.last_shown-last.ensures.shown t to);
       within = omega (arith, ints, last, c.last_shown-last.ensures.near);

@@ -1,10 +1,12 @@
-use Rattle.std.proofs.Common.{◌≡◌, ◌&&◌, map, rules, sym, ◌∙◌, subst, to_z, of_z, w32}
+use Rattle.std.proofs.Common.{◌≡◌, ◌&&◌, List, map, rules, sym, ◌∙◌, subst, to_z, of_z, w32}
 use Rattle.std.proofs.lemmas.Bool.{and_parts}
 use Rattle.ics_fields.specs.Days.{IsDayNumber}
 use Rattle.ics_file.specs.File.{said_by}
 use Rattle.ics_series.specs.Ahead.{agenda_coming}
 use Rattle.ics_starts.specs.Clocks.{display_clock}
 use Rattle.ics_listing.specs.Entry.{entry_of}
+use Rattle.ics_listing.specs.FeedSources.{Source}
+use Rattle.ics_series.specs.DaySteps.{scope_in, IsLookedBefore}
 use Rattle.ics_series.proofs.AheadLemmas.{ahead-given, ahead-skipped}
 use Rattle.ics_series.proofs.days.Days.next_today.Goals as goal
 
@@ -38,3 +40,9 @@ pub returns-then-met-on-clause-within : goal.returns-then-met-on-clause-within
 returns-then-met-on-clause-within c =
     let fits : to_z w32 (of_z w32 c.loop-occurrence.self.today.day) ≡ c.loop-occurrence.self.today.day = search rules in
     subst IsDayNumber fits (c.is_on-on.ensures.within (and_parts c.is_met-met.result c.is_on-on.result c.if-met-on.true).1)
+
+pub invariant_of-self-clause-before : goal.invariant_of-self-clause-before
+invariant_of-self-clause-before c =
+    let self = c.loop-occurrence.self in
+    let scope = scope_in (map said_by self.files.now) (display_clock self.display.now) self.window self.after in
+    subst (λ (sources : List Source). IsLookedBefore scope self.today.day sources self.today.looked) (sym c.next.ensures.sources) self.before

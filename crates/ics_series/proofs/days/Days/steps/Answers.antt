@@ -17,7 +17,6 @@ returns-clause-most c = λ list bound ahead h.
     (filter (λ o. is_today (display_clock c.args.self.now.display.now) c.args.self.now.window c.args.self.now.today.day o) (agenda_coming self.today.agenda))
     ahead.later ahead.is
     (λ p m. ((ahead.listing.exact p).0 m).later) in
-    let few = steps-most scope self.today.day self.today.looked self.before self.begun (agenda_sources self.today.agenda) are self.today.agenda.apart.1.1
-    (agenda_coming self.today.agenda)
-    c.steps.result c.steps.ensures.most self.past list reach h in
+    let few = steps-most scope self.today.day (agenda_sources self.today.agenda) are self.today.agenda.apart.1.1 (agenda_coming self.today.agenda)
+    c.steps.result c.steps.ensures.most self.today.looked self.before self.begun self.past list reach h in
     omega (arith, c.saturating_add.ensures, few))

@@ -10,7 +10,7 @@ use Rattle.ics_series.specs.Ahead.{agenda_coming}
 use Rattle.ics_starts.specs.Clocks.{display_clock}
 use Rattle.ics_series.specs.DaySteps.{agenda_sources, scope_in}
 use Rattle.ics_series.specs.Sources.{recurring}
-use Rattle.ics_series.proofs.AheadLemmas.{ahead-turned, from-later, looked-next, searched-masters}
+use Rattle.ics_series.proofs.AheadLemmas.{ahead-turned, from-later, looked-before, looked-next, searched-masters}
 use Rattle.ics_series.proofs.SpanLemmas.{after-next, after-same, chosen-back, none-between}
 use Rattle.ics_series.proofs.days.Days.turn.Goals as goal
 
@@ -64,8 +64,8 @@ invariant_of-self c =
       below = self.below;
     }
 
-pub invariant_of-self-3 : goal.invariant_of-self-3
-invariant_of-self-3 c =
+pub invariant_of-self-2 : goal.invariant_of-self-2
+invariant_of-self-2 c =
     let self = c.args.self.now in
     let next = c.next_day-day in
     let day : to_z w32 (of_z w32 c.next_day-day.result) ≡ c.next_day-day.result = omega (arith, ints, next.type_inv) in
@@ -75,6 +75,9 @@ invariant_of-self-3 c =
     let files = map said_by self.files.now in
     let display = display_clock self.display.now in
     let moved = rw (c.deref-2.ensures.value, c.floor_of.ensures) at c.of.ensures.spans in
+    let masters = searched-masters scope (option_map (λ key. key_rank key.now) c.key_near-key.result) c.near_day-near.ensures
+    (λ since f. from-later self.window self.after self.begun (omega (arith, ints, day, next.ensures.later)) since)
+    (recurring (agenda_sources c.in_ok-agenda.agenda)) c.in_ok-agenda.ensures.sources.each in
     record {
       chosen = self.chosen;
       sized = moved.size ∙ self.sized;
@@ -83,16 +86,13 @@ invariant_of-self-3 c =
       marked = rw c.deref-2.ensures.value at c.of.ensures.marks;
       not_before = omega (arith, ints, day, next.ensures.later, self.not_before);
       begun = omega (arith, ints, day, next.ensures.later, begun);
-      masters =
-          ∣ searched-masters scope (option_map (λ key. key_rank key.now) c.key_near-key.result) c.near_day-near.ensures
-          (λ since f. from-later self.window self.after self.begun (omega (arith, ints, day, next.ensures.later)) since)
-          (recurring (agenda_sources c.in_ok-agenda.agenda)) c.in_ok-agenda.ensures.sources.each ∣₁;
-      before = λ masters most n all bounds is. ∥∥₁_elim c.args.self.now.masters le_prop (λ are.
-          looked-next scope self.today.day self.today.looked self.before self.begun (agenda_sources self.today.agenda) are self.today.agenda.apart.1.1
-          (agenda_coming self.today.agenda)
-          c.steps.result c.steps.ensures.most
-          (to_z w32 (of_z w32 c.next_day-day.result)) c.saturating_add-looked.result (omega (arith, ints, day, next.ensures.later))
-          (omega (arith, c.saturating_add-looked.ensures)) masters most n all bounds is);
+      masters = ∣ masters ∣₁;
+      before = looked-before scope (to_z w32 (of_z w32 c.next_day-day.result)) (agenda_sources c.in_ok-agenda.agenda) masters
+          c.in_ok-agenda.agenda.apart.1.1
+          (λ all-masters most n all bounds is. ∥∥₁_elim c.args.self.now.masters le_prop (λ are.
+          looked-next scope self.today.day (agenda_sources self.today.agenda) are self.today.agenda.apart.1.1 (agenda_coming self.today.agenda) 0
+          (λ m h. omega arith) self.today.looked self.before self.begun (omega (arith, ints, day, next.ensures.later)) (omega arith)
+          all-masters most n all bounds is));
       past = λ l. absurd (omega (arith, ints, l, next.ensures.last, day, self.within));
       shown = self.shown;
       within = self.within;
@@ -103,9 +103,6 @@ pub returns-clause-day : goal.returns-clause-day
 returns-clause-day c =
     let next = c.next_day-day in
     (omega (arith, ints, next.type_inv, next.ensures.later), omega (arith, ints, next.type_inv, next.ensures.last))
-
-pub returns-clause-counted : goal.returns-clause-counted
-returns-clause-counted c = omega (arith, c.saturating_add-looked.ensures, c.steps.ensures.count)
 
 pub returns-clause-ahead : goal.returns-clause-ahead
 returns-clause-ahead c = λ list a.
