@@ -82,10 +82,10 @@ def yearly(count, locals_of_year):
     return in_zone(parts, *of_year(locals_of_year))
 
 
-def seconds(count, end, *more, since='20240701'):
-    """Lines of so many events that recur each second since a day. Their times end so."""
-    return [line for number in range(count)
-            for line in ('BEGIN:VEVENT', 'UID:%d' % number, 'DTSTART:%sT000000%s' % (since, end), 'RRULE:FREQ=SECONDLY', *more, 'END:VEVENT')]
+def seconds(count, end, *more, since='20240701', name=''):
+    """Lines of so many events that recur each second since a day, in the time zone of this name or in none. Their times end so."""
+    start = 'DTSTART%s:%sT000000%s' % (name and ';TZID=' + name, since, end)
+    return [line for number in range(count) for line in ('BEGIN:VEVENT', 'UID:%d' % number, start, 'RRULE:FREQ=SECONDLY', *more, 'END:VEVENT')]
 
 
 def excluded(count, end, *before, since='20240701'):
@@ -130,6 +130,28 @@ def periods(count, zoned, *before):
                      'RDATE%s;VALUE=PERIOD:%s' % (name, ','.join(each + '/P36525D' for each in at)), 'END:VEVENT'])
 
 
+def six_offsets(hours):
+    """Three observances since the year 0001, ten minutes apart in these hours of each day, before and after each of which stands an offset of its own."""
+    return [part('STANDARD', '00010101T00%d000' % number, '+%s' % offset, '-%s' % offset, 'RRULE:FREQ=DAILY;BYHOUR=' + hours)
+            for number, offset in enumerate(('2359', '2300', '2200'))]
+
+
+def turning(first, second, *rules):
+    """A clock that goes from one offset to another at what the first rule gives, and back at what the second gives, each day."""
+    return [part('STANDARD', '00010101T000000', before, after, 'RRULE:FREQ=DAILY;' + rule)
+            for before, after, rule in zip((first, second), (second, first), rules)]
+
+
+def by(hours, minutes, *seconds):
+    """The parts of a rule for these hours, minutes and, if they are said, seconds."""
+    return 'BYHOUR=%s;BYMINUTE=%s' % (hours, minutes) + ''.join(';BYSECOND=' + each for each in seconds)
+
+
+def since_0001(count, parts, *more):
+    """So many events of seconds since the year 0001 in a time zone of these observances."""
+    return calendar([*swung(*parts), *seconds(count, '', *more, since='00010101', name='odd')])
+
+
 def faulty(count):
     """So many events without a start."""
     return calendar([line for number in range(count) for line in ('BEGIN:VEVENT', 'UID:%d' % number, 'END:VEVENT')])
@@ -139,8 +161,15 @@ LONG = 'DURATION:P36525D'
 PAST = 'UNTIL=00010102T000000Z'
 YESTERDAY = 'RRULE:FREQ=SECONDLY;UNTIL=20240602T000000Z'
 ODD_SECONDS = 'FREQ=SECONDLY;INTERVAL=2;BYSECOND=%s;BYMONTH=%s' % (ODD, MONTHS)
-SELDOM = 'FREQ=DAILY;COUNT=4294967295;INTERVAL=1009;BYWEEKNO=1'
 EACH = ','.join(str(number) for number in range(60))
+EVEN = ','.join(str(number) for number in range(0, 60, 2))
+FIFTEEN = HOURS[:HOURS.index(',15')]
+SIX_HOURLY = six_offsets('0,6,12,18')
+EACH_OTHER_SECOND = turning('+2359', '-2359', by(FIFTEEN, EACH, EVEN), by(FIFTEEN, EACH, ODD))
+EACH_OTHER_MINUTE = [part('STANDARD', '00010101T000000', '+0000', after, 'RRULE:FREQ=DAILY;' + by(HOURS, minutes))
+                     for after, minutes in (('+2359', EACH), ('-2359', EVEN))]
+HOURS_OF_MONDAY = [part('STANDARD', '00010101T000000', '-2359', '+2359', 'RRULE:FREQ=YEARLY;BYDAY=MO;BYHOUR=0,1,2;BYSECOND=' + EACH)]
+SELDOM = 'FREQ=DAILY;COUNT=4294967295;INTERVAL=1009;BYWEEKNO=1'
 QUARTER = ['2024-07-01', '92d', '--limit', '1']
 EXCLUDED = 'EXDATE;VALUE=DATE:' + ','.join('2024%02d%02d' % (month, day) for month in (7, 8, 9) for day in range(1, 32 - month // 9))
 FAR = 'RDATE;TZID=odd:' + ','.join('%04d0701T120000' % year for year in range(2100, 8100, 150))
@@ -211,6 +240,17 @@ ROWS = [
     ('25 PERIODs by a clock that skips two days a week', lambda: periods(25, True, *swung(*forth_and_back('WEEKLY', '04T000000', '01T000000'))), DAY, 4, 32),
     ('92 excluded days by a clock that skips two days a week',
      lambda: in_zone(forth_and_back('WEEKLY', '04T000000', '01T000000'), '20240101T000000', 'RRULE:FREQ=SECONDLY', EXCLUDED), [*QUARTER, '--every-day'], 8, 32),
+    ('18 PERIODs by a clock of six offsets', lambda: periods(18, True, *swung(*SIX_HOURLY)), DAY, 4, 32),
+    ('24 excluded days by it, each day',
+     lambda: in_zone(SIX_HOURLY, '20240701T000000', 'RRULE:FREQ=SECONDLY', EXCLUDED[:EXCLUDED.index(',20240725')]),
+     ['2024-07-01', '24d', '--limit', '1', '--every-day'], 4, 32),
+    ('3 rules of 36,525 days by it', lambda: since_0001(3, six_offsets(HOURS), LONG), [*DAY, '--limit', '1'], 4, 32),
+    ('100 rules of two days by the clock of New York', lambda: rules(100, 'FREQ=SECONDLY', 'DURATION:P2D', end=''), [*DAY, '--limit', '1', *NEW_YORK], 4, 32),
+    ('5,000 days by a clock that turns in three hours of a Monday', lambda: since_0001(1, HOURS_OF_MONDAY, 'DURATION:P5000D'), [*DAY, '--limit', '1'], 4, 32),
+    ('seconds by a clock that turns each second', lambda: since_0001(1, EACH_OTHER_SECOND), [*DAY, '--limit', '1'], 8, 32),
+    ('a second each by a clock that turns each minute', lambda: since_0001(1, EACH_OTHER_MINUTE, 'DURATION:PT1S'), [*DAY, '--limit', '1'], 4, 32),
+    ('12 rules behind a day that the clock skipped, each day',
+     lambda: calendar(seconds(12, '', since='18441221')), ['1845-01-01', '9d', '--limit', '1', '--every-day', '--notstarted', '--zone-file', SKIPPED], 8, 64),
     ('64 rules behind what is listed, limit 1', lambda: excluded(64, '', *once('20240628')),
      ['2024-06-28', '10d', '--limit', '1', *NEW_YORK], 1, 32),
     ('400,000 faulty events, --keep-going', lambda: faulty(400_000), [*DAY, '--keep-going'], 12, 256),
