@@ -1,10 +1,7 @@
--- The keys of occurrences under their days, and the days that a clock can show in a window. A clock is less than two days from UTC's.
-use Rattle.std.specs.Prelude.{ℤ, pos, ◌-ℤ◌, Bool, ◌≡◌, true, List, [], ◌∷◌, filter, Option, Some, None, ◌+ℤ◌, false}
-use Rattle.std.specs.Int.{int_max, int_min}
+-- The keys of occurrences under their days.
+use Rattle.std.specs.Prelude.{ℤ, Bool, ◌≡◌, true, List, [], ◌∷◌, filter, Option, Some, None}
 use Rattle.std.specs.Ordering.{int_cmp, on, then_cmp, is_lt}
 use Rattle.std.specs.declared.cmp.Ordering.{Ordering}
-use Rattle.ics_fields.specs.Locals.{day_of_local, midnight}
-use Rattle.ics_listing.specs.declared.window.Window.{Window}
 use Rattle.ics_listing.specs.Entry.{Entry, Rank, key_rank, rank_cmp, entry_of, rank_of}
 use Rattle.ics_listing.specs.declared.day_key.DayKey.{DayKey}
 use Rattle.ics_listing.specs.declared.occurrence.Occurrence.{Occurrence}
@@ -52,16 +49,3 @@ after_day_key after list = filter (λ p. is_day_after after p) list
 abbrev pub GivesOnDay : List OnDay → Option (ℤ × Occurrence) → List OnDay → Type 0
 GivesOnDay old None new = (old ≡ []) × (new ≡ [])
 GivesOnDay old (Some given) new = old ≡ on_day_of given ∷ new
-
--- two days before the window's first day in UTC, and two days after its last
-abbrev pub first_near : Window → ℤ
-first_near w = day_of_local w.from -ℤ pos 2
-
-abbrev pub last_near : Window → ℤ
-last_near w = day_of_local (w.to -ℤ pos 1) +ℤ pos 2
-
--- what a window holds of a day in UTC, of the two days before it and of the two after it
-pub record IsNearDay (w : Window) (day : ℤ) (n : Window) : Type 0 where
-  pub from : n.from ≡ int_max w.from (midnight (day -ℤ pos 2))
-  pub to : n.to ≡ int_min w.to (midnight (day +ℤ pos 3))
-  pub all : n.notstarted ≡ false

@@ -10,7 +10,6 @@ mod laws;
 mod lead;
 mod listed_starts;
 mod merge;
-mod near_days;
 mod occurrence;
 mod queue;
 mod start;
@@ -28,7 +27,6 @@ pub use laws::{
 };
 pub use listed_starts::{ListedStarts, firsts};
 pub use merge::Merge;
-pub use near_days::{first_near, last_near, near_day};
 pub use occurrence::Occurrence;
 pub use queue::{Queue, Waiting};
 pub use start::{Start, StartSource, date_of, local_of, time_at, time_of};

@@ -4,7 +4,8 @@ use Rattle.std.proofs.Common.{◌∙◌, ap, subst, arith, ◌<ℤ◌, ◌≤ℤ
 use Rattle.std.proofs.Common.{Some, sum_by, option_map, nat_cmp, Ordering, Less, int_le}
 use Rattle.std.proofs.lemmas.Int.{ints, int_max_is, int_min_is}
 use Rattle.ics_file.specs.File.{FileSaid}
-use Rattle.ics_zone.specs.Seconds.{IsNear}
+use Rattle.ics_zone.specs.declared.bounds.Bounds.{Bounds}
+use Rattle.ics_series.specs.NearDays.{first_near, last_near, HasOffsets, IsNearDay}
 use Rattle.ics_zone.proofs.Cases.{int_le_true, int_lt_true, less_or_not_z, true_int_lt}
 use Rattle.std.proofs.lemmas.Bool.{and_parts}
 use Rattle.std.specs.Cmp.{int_cmp_is}
@@ -13,11 +14,11 @@ use Rattle.ics_listing.specs.declared.window.Window.{Window}
 use Rattle.ics_listing.specs.After.{is_after}
 use Rattle.ics_series.specs.Ahead.{is_today, today, IsAheadOf, IsLater}
 use Rattle.ics_listing.specs.FileClocks.{Clock}
-use Rattle.ics_listing.specs.DayKeys.{day_rank_of, DayRank, first_near, last_near, IsNearDay, after_day_key, is_day_after, on_day, on_day_cmp, OnDay}
+use Rattle.ics_listing.specs.DayKeys.{day_rank_of, DayRank, after_day_key, is_day_after, on_day, on_day_cmp, OnDay}
 use Rattle.ics_series.specs.OnDays.{date_at, first_day, is_on, last_day, Begins, IsOnDay}
 use Rattle.ics_series.specs.OnDays.{IsBehindKey}
 use Rattle.ics_series.specs.DaySteps.{IsNearAgenda, IsPastAgenda, day_and_start, masters_in, AreDayMasters, AreMasters, IsDayMaster, IsFromStart, Scope}
-use Rattle.ics_series.specs.DaySteps.{begin_day, first_under, most_in, sum_days, AreDayBounds, HasDaysBound, IsLookedBefore}
+use Rattle.ics_series.specs.DaySteps.{begin_day, day_of_first, day_of_key, first_under, most_in, sum_days, AreDayBounds, HasDaysBound, IsLookedBefore}
 use Rattle.ics_listing.specs.Entry.{Entry, Rank, entry_cmp, rank_of}
 use Rattle.ics_listing.specs.Listing.{IsListing, IsIn}
 use Rattle.ics_series.specs.Meets.{IsListed, IsToCome}
@@ -27,8 +28,8 @@ use Rattle.ics_listing.specs.Tokens.{IsDayKey, IsKey}
 use Rattle.ics_listing.specs.FeedSources.{Source, Recurring}
 use Rattle.ics_series.specs.Sources.{master_of, recurring, uid_cmp, IsFrom, master_at, AreSources, IsMasterOf}
 use Rattle.ics_listing.proofs.ListingLemmas.{listing-filter, one-listing, relisted, all-in, all-as, sums-within, rises-on}
-use Rattle.ics_listing.proofs.NearLemmas.{day-within, day-under}
-use Rattle.ics_series.proofs.NearDayLemmas.{meets-near, near-first, near-last, occurs-forward, shown-by}
+use Rattle.ics_listing.proofs.NearLemmas.{day-under}
+use Rattle.ics_series.proofs.NearDayLemmas.{bounds-offsets, day-fits, meets-near, near-first, near-last, occurs-forward, shown-by}
 use Rattle.ics_series.proofs.OnDayLemmas.{day-first, on_day_total, shown-today, today-listing, today-shown}
 use Rattle.ics_starts.proofs.JoinedLemmas.{joined, none-listed}
 use Rattle.ics_series.proofs.ToComeLemmas.{after-come, come-after, come-listed}
@@ -54,31 +55,31 @@ use Rattle.ics_series.proofs.VersionLemmas.{in-map, map-in}
 abbrev pub IsUnder : List FileSaid → Clock → Window → ℤ → OnDay → Type 0
 IsUnder files display w day p = IsOnDay files display w p × (p.day ≡ day)
 
-module _ (files : List FileSaid) (display : Clock) (near : (t : ℤ) → IsNear (display.offset t)) (w : Window) where
+module _ (files : List FileSaid) (display : Clock) (w : Window) (b : Bounds) (bounded : HasOffsets display w b) where
   -- an occurrence meets what the window holds near a day under which it is shown, which is one that a clock can show there
-  pub near-under : {day : ℤ} (n : Window) → IsNearDay w day n → (p : OnDay) → IsUnder files display w day p → Meets n p.entry
+  pub near-under : {day : ℤ} (n : Window) → IsNearDay w b day n → (p : OnDay) → IsUnder files display w day p → Meets n p.entry
   near-under n h p q =
-      let own = subst (λ d. IsNearDay w d n) (sym q.1) h in
-      meets-near display near w p.entry q.0.listed.1 (occurs-forward files display p.entry q.0.listed.0) p.day q.0.on n own.from own.to own.all
+      let own = subst (λ d. IsNearDay w b d n) (sym q.1) h in
+      meets-near display w b bounded p.entry q.0.listed.1 (occurs-forward files display p.entry q.0.listed.0) p.day q.0.on n own
 
-  pub shown-first : (p : OnDay) → IsOnDay files display w p → first_near w ≤ℤ p.day
-  shown-first p s = near-first display near w p.entry s.listed.1 (occurs-forward files display p.entry s.listed.0) p.day s.on
+  pub shown-first : (p : OnDay) → IsOnDay files display w p → first_near w b ≤ℤ p.day
+  shown-first p s = near-first display w b bounded p.entry s.listed.1 (occurs-forward files display p.entry s.listed.0) p.day s.on
 
-  pub shown-last : (p : OnDay) → IsOnDay files display w p → p.day ≤ℤ last_near w
-  shown-last p s = near-last display near w p.entry s.listed.1 (occurs-forward files display p.entry s.listed.0) p.day s.on
+  pub shown-last : (p : OnDay) → IsOnDay files display w p → p.day ≤ℤ last_near w b
+  shown-last p s = near-last display w b bounded p.entry s.listed.1 (occurs-forward files display p.entry s.listed.0) p.day s.on
 
   -- nothing is shown past the last day that the clock can show
-  pub none-past-last : {last day : ℤ} → ((t : ℤ) → t <ℤ w.to → date_at display t ≤ℤ last) → last ≤ℤ day → (p : OnDay) → IsOnDay files display w p
+  pub none-past-last : {last day : ℤ} → ((t : ℤ) → w.from ≤ℤ t → t <ℤ w.to → date_at display t ≤ℤ last) → last ≤ℤ day → (p : OnDay) → IsOnDay files display w p
       → p.day ≤ℤ day
   none-past-last {last = last} most l p s =
-      let under = shown-by display near w p.entry s.listed.1 (occurs-forward files display p.entry s.listed.0) p.day s.on last most in
+      let under = shown-by display w b bounded p.entry s.listed.1 (occurs-forward files display p.entry s.listed.0) p.day s.on last most in
       omega (arith, ints, under, l)
 
   -- the key under a day of what is shown has a token
   pub day-keys : ((o : Entry) → Occurs files display o → IsKey (rank_of o)) → (p : OnDay) → IsOnDay files display w p → IsDayKey (day_rank_of p)
   day-keys keys p s =
-      let within = day-within w p.day (shown-first p s) (shown-last p s) in
-      record { day = omega (arith, ints, within.0, within.1, w.not_early, w.not_late); is_key = keys p.entry s.listed.0 }
+      let within = day-fits w b (bounds-offsets display w b bounded) p.day (shown-first p s) (shown-last p s) in
+      record { day = omega (arith, ints, within.0, within.1); is_key = keys p.entry s.listed.0 }
 
   -- those of a day that come after a key, if there is one
   abbrev IsBegun : ℤ → Option Rank → OnDay → Type 0
@@ -88,12 +89,12 @@ module _ (files : List FileSaid) (display : Clock) (near : (t : ℤ) → IsNear 
   begun-listing : (day : ℤ) (key : Option Rank) (n : Window) → ((p : OnDay) → IsUnder files display w day p → Meets n p.entry) → {coming : List Entry}
       → IsListing entry_cmp (IsToCome files display n key) coming → IsListing on_day_cmp (IsBegun day key) (today display w day coming)
   begun-listing day key n meets l =
-      today-listing files display near w day (IsBegun day key) l
-      (λ o p t. ((today-shown files display near w day o (come-listed files display n key o p).0 t, refl), after-come files display n key o p))
+      today-listing files display w day (IsBegun day key) l
+      (λ o p t. ((today-shown files display w day o (come-listed files display n key o p).0 t, refl), after-come files display n key o p))
       (λ p q. (
         q.0.1,
         come-after files display n key p.entry (q.0.0.listed.0, meets p q.0) q.1,
-        subst (λ d. is_today display w d p.entry ≡ true) q.0.1 (shown-today files display near w p q.0.0),
+        subst (λ d. is_today display w d p.entry ≡ true) q.0.1 (shown-today files display w p q.0.0),
       ))
 
   -- all that is shown under a day comes after a key, if there is one
@@ -119,7 +120,7 @@ module _ (files : List FileSaid) (display : Clock) (near : (t : ℤ) → IsNear 
 
   -- A later day: where nothing is to come under the day or between them, that day's come next.
   pub ahead-turned : {day next : ℤ} {n : Window} {none coming : List Entry} {list : List OnDay} (key : Option Rank) → IsBeforeAll next key → day <ℤ next
-      → NoneBetween day next → IsNearDay w next n → none ≡ [] → IsListing entry_cmp (IsToCome files display n key) coming
+      → NoneBetween day next → IsNearDay w b next n → none ≡ [] → IsListing entry_cmp (IsToCome files display n key) coming
       → IsAheadOf files display w day none list → IsAheadOf files display w next coming list
   ahead-turned {day = day} {next = next} {n = n} {coming = coming} key all e between h empty l a =
       let later = filter (λ p. int_lt next p.day) a.later in
@@ -146,7 +147,7 @@ module _ (files : List FileSaid) (display : Clock) (near : (t : ℤ) → IsNear 
       ∙ one-listing on_day_cmp on_day_total (IsLater files display w day) a.later [] a.listing (none-later day h))
 
   -- There is a list of those of later days, and of all.
-  some-later : (xs : List Entry) → IsListing entry_cmp (IsListed files display w) xs → (n : ℕ) (day : ℤ) → last_near w ≤ℤ (day +ℤ pos n) →
+  some-later : (xs : List Entry) → IsListing entry_cmp (IsListed files display w) xs → (n : ℕ) (day : ℤ) → last_near w b ≤ℤ (day +ℤ pos n) →
       (later : List OnDay) × IsListing on_day_cmp (IsLater files display w day) later
   some-later xs l zero day h = ([], none-later day (λ p s. let last = shown-last p s in omega (arith, ints, h, last)))
   some-later xs l (suc n) day h =
@@ -158,12 +159,12 @@ module _ (files : List FileSaid) (display : Clock) (near : (t : ℤ) → IsNear 
 
   pub later-than : (xs : List Entry) → IsListing entry_cmp (IsListed files display w) xs → (day : ℤ) →
       (later : List OnDay) × IsListing on_day_cmp (IsLater files display w day) later
-  later-than xs l day = some-later xs l (unsigned_abs (last_near w -ℤ day)) day (omega (arith, ints))
+  later-than xs l day = some-later xs l (unsigned_abs (last_near w b -ℤ day)) day (omega (arith, ints))
 
   -- Where a listing begins: at a day, and there behind a key.
   module _ (after : Option DayRank) (day : ℤ) (key : Option Rank) (begins : Begins display w after day key) where
     -- past the last day there is nothing
-    begun-past : last_near w <ℤ day → (coming : List Entry) → coming ≡ [] → IsListing on_day_cmp (IsBegun day key) (today display w day coming)
+    begun-past : last_near w b <ℤ day → (coming : List Entry) → coming ≡ [] → IsListing on_day_cmp (IsBegun day key) (today display w day coming)
     begun-past past coming none = subst (λ (xs : List Entry). IsListing on_day_cmp (IsBegun day key) (today display w day xs)) (sym none)
         (none-listed on_day_cmp (λ p q. let on = q.0.1 in let last = shown-last p q.0.0 in omega (arith, ints, past, on, last)))
 
@@ -175,26 +176,27 @@ module _ (files : List FileSaid) (display : Clock) (near : (t : ℤ) → IsNear 
     come-test a r = (λ h. grind (arith, ints), λ h. grind (arith, ints))
 
     begun-come : (p : OnDay) → IsBegun day key p ⊎ IsLater files display w day p → IsCome p
-    begun-come p (inl b) = (b.0.0, begins.behind p b.0.0.listed.1 b.0.0.on ∙ (come-test p.day (is_after key p.entry)).0 (inr (b.0.1, b.1)))
-    begun-come p (inr l) = (l.shown, begins.behind p l.shown.listed.1 l.shown.on ∙ (come-test p.day (is_after key p.entry)).0 (inl l.later))
+    begun-come p (inl b) = (b.0.0, begins p b.0.0.listed.1 b.0.0.on ∙ (come-test p.day (is_after key p.entry)).0 (inr (b.0.1, b.1)))
+    begun-come p (inr l) = (l.shown, begins p l.shown.listed.1 l.shown.on ∙ (come-test p.day (is_after key p.entry)).0 (inl l.later))
 
     come-begun : (p : OnDay) → IsCome p → IsBegun day key p ⊎ IsLater files display w day p
     come-begun p c =
         ⊎_elim (λ l. inr (record { shown = c.0; later = l })) (λ k. inl ((c.0, k.0), k.1))
-        ((come-test p.day (is_after key p.entry)).1 (sym (begins.behind p c.0.listed.1 c.0.on) ∙ c.1))
+        ((come-test p.day (is_after key p.entry)).1 (sym (begins p c.0.listed.1 c.0.on) ∙ c.1))
 
     all-shown : (xs : List Entry) → IsListing entry_cmp (IsListed files display w) xs →
         (list : List OnDay) × IsListing on_day_cmp (IsOnDay files display w) list
     all-shown xs l =
-        let all = later-than xs l (first_near w -ℤ pos 1) in
+        let all = later-than xs l (first_near w b -ℤ pos 1) in
         (all.0, relisted all.1 (λ p m. m.shown) (λ p s. let first = shown-first p s in record { shown = s; later = omega (arith, ints, first) }))
 
     pub begun-ahead : (xs coming : List Entry) (sources : List Source) → IsListing entry_cmp (IsListed files display w) xs
-        → IsNearAgenda files display w day key coming sources ⊎ IsPastAgenda w day coming sources
+        → IsNearAgenda files display (IsNearDay w b day) key coming sources ⊎ IsPastAgenda (last_near w b) day coming sources
         → (list : List OnDay) × IsListing on_day_cmp (IsOnDay files display w) list × IsAheadOf files display w day coming (after_day_key after list)
     begun-ahead xs coming sources l agenda =
-        let come = ⊎_elim (λ (a : IsNearAgenda files display w day key coming sources). begun-listing day key a.window (near-under a.window a.near) a.listing)
-        (λ (a : IsPastAgenda w day coming sources). begun-past a.past coming a.none) agenda in
+        let come = ⊎_elim
+        (λ (a : IsNearAgenda files display (IsNearDay w b day) key coming sources). begun-listing day key a.window (near-under a.window a.near) a.listing)
+        (λ (a : IsPastAgenda (last_near w b) day coming sources). begun-past a.past coming a.none) agenda in
         let all = all-shown xs l in
         let later = later-than xs l day in
         let after-key = listing-filter (λ p. is_day_after after p) on_day_cmp (IsOnDay files display w) IsCome all.0 all.1 (λ p s t. (s, t)) (λ p c. c) in
@@ -211,11 +213,13 @@ module _ (files : List FileSaid) (display : Clock) (near : (t : ℤ) → IsNear 
 
 -- Where a listing begins with the first day that the clock can show in the window, since the key, if there is one, is of an earlier day. All
 -- that is shown under that day comes after a key of its own.
-module _ (clock : Clock) (w : Window) (day : ℤ) (first : (t : ℤ) → w.from ≤ℤ t → day ≤ℤ date_at clock t) where
-  not-before : (o : Entry) (at : ℤ) → is_on clock w o at ≡ true → day ≤ℤ at
-  not-before o at on =
+module _ (clock : Clock) (w : Window) (day : ℤ) (first : (t : ℤ) → w.from ≤ℤ t → t <ℤ w.to → day ≤ℤ date_at clock t) where
+  not-before : (o : Entry) (at : ℤ) → Meets w o → is_on clock w o at ≡ true → day ≤ℤ at
+  not-before o at met on =
       let shown = int_le_true (first_day clock w o) at (and_parts (int_le (first_day clock w o) at) (int_le at (last_day clock w o)) on).0 in
-      let low = first (int_max o.start w.from) (omega (arith, ints, int_max_is o.start w.from)) in
+      let begun = met.begun in
+      let low = first (int_max o.start w.from) (omega (arith, ints, int_max_is o.start w.from))
+      (omega (arith, ints, int_max_is o.start w.from, begun, w.ordered)) in
       omega (arith, ints, shown, low)
 
   day-later : (after : Option DayRank) → ((a : DayRank) → after ≡ Some a → a.day <ℤ day) → (p : OnDay) → day ≤ℤ p.day → is_day_after after p ≡ true
@@ -227,15 +231,12 @@ module _ (clock : Clock) (w : Window) (day : ℤ) (first : (t : ℤ) → w.from 
       ⊎_elim (λ l. grind (arith, ints, l))
       (λ n. let e : at ≡ day = omega (arith, ints, n, low) in let t = same e in grind (arith, ints, e, t)) (less_or_not_z day at)
 
-  pub begins-first : (after : Option DayRank) (key : Option Rank) → first_near w ≤ℤ day → ((a : DayRank) → after ≡ Some a → a.day <ℤ day)
+  pub begins-first : (after : Option DayRank) (key : Option Rank) → ((a : DayRank) → after ≡ Some a → a.day <ℤ day)
       → ((o : Entry) → Meets w o → is_on clock w o day ≡ true → is_after key o ≡ true) → Begins clock w after day key
-  begins-first after key low early all = record {
-    low = low;
-    behind = λ p met on.
-        let from = not-before p.entry p.day on in
-        day-later after early p from
-        ∙ sym (first-test p.day (is_after key p.entry) from (λ same. all p.entry met (subst (λ d. is_on clock w p.entry d ≡ true) same on)));
-  }
+  begins-first after key early all = λ p met on.
+      let from = not-before p.entry p.day met on in
+      day-later after early p from
+      ∙ sym (first-test p.day (is_after key p.entry) from (λ same. all p.entry met (subst (λ d. is_on clock w p.entry d ≡ true) same on)))
 
 -- What is drawn of the day's: it is skipped, or given.
 module _ (files : List FileSaid) (display : Clock) (w : Window) (day : ℤ) (o : Entry) (coming rest : List Entry) (drawn : coming ≡ o ∷ rest) where
@@ -309,7 +310,7 @@ day-masters s day ms =
     all-as (IsDayMaster s day) (IsOfFolder s.files s.display) ms (λ m h. record { by = h.by; is = h.is; same = h.searched.same })
 
 -- those of a listing are searched in its window, from an instant on
-pub searched-masters : (s : Scope) {day : ℤ} {n : Window} (after : Option Rank) → IsNearDay s.window day n
+pub searched-masters : (s : Scope) {day : ℤ} {n : Window} (after : Option Rank) → IsNearDay s.window s.bounds day n
     → ((since : ℤ) → IsFrom after since → IsFromStart s.after day since)
     → (ms : List Recurring) → AllByRecursion (IsMasterOf s.files s.display n after) ms → AllByRecursion (IsDayMaster s day) ms
 searched-masters s {day = day} {n = n} after near from ms =
@@ -318,7 +319,7 @@ searched-masters s {day = day} {n = n} after near from ms =
       is = h.is;
       searched = record {
         same = same-master s.files s.display m h.by h.clocks h.event;
-        near = subst (IsNearDay s.window day) (sym h.window) near;
+        near = subst (IsNearDay s.window s.bounds day) (sym h.window) near;
         from = from m.since h.since;
       };
     })
@@ -333,10 +334,10 @@ module _ (files : List FileSaid) (display : Clock) (w : Window) (after : Option 
       (λ m h. record { by = h.by; is = h.is; same = same-master files display m h.by h.clocks h.event }) are.each) all
 
 -- past the last day the window holds nothing near one
-none-near : (w : Window) (day : ℤ) (n : Window) → last_near w <ℤ day → IsNearDay w day n → ⊥
-none-near w day n past near =
-    let last = day-under (w.to -ℤ pos 1) (day_of_local (w.to -ℤ pos 1)) refl in
-    omega (arith, ints, int_max_is, int_min_is, n.ordered, near.from, near.to, last.0, last.1, past)
+none-near : (w : Window) (b : Bounds) (day : ℤ) (n : Window) → last_near w b <ℤ day → IsNearDay w b day n → ⊥
+none-near w b day n past near =
+    let last = day-under ((w.to -ℤ pos 1) +ℤ b.most) (day_of_local ((w.to -ℤ pos 1) +ℤ b.most)) refl in
+    omega (arith, ints, int_max_is, int_min_is, n.ordered, near.from, near.to, last.1, past)
 
 sum-more : (f : ℤ → ℕ) (day : ℤ) (n : ℕ) → sum_days f day (suc n) ≡ sum_days f day n + f (day +ℤ pos n)
 unfolding sum_days
@@ -359,11 +360,11 @@ module _ (s : Scope) (day : ℤ) (sources : List Source) (are : AreDayMasters s 
 
   -- so before the next agenda, where no more was looked at than up to the day before
   pub looked-before : {looked : ℕ} → ((masters : List Placed) (most : ℤ → Master → ℕ) (n : ℕ) → AreMasters s masters
-      → ((d : ℤ) → AreDayBounds s masters d (most d)) → (begin_day s.window s.after +ℤ pos n) ≡ day → looked ≤ most_in s masters most n)
+      → ((d : ℤ) → AreDayBounds s masters d (most d)) → (begin_day s +ℤ pos n) ≡ day → looked ≤ most_in s masters most n)
       → IsLookedBefore s day sources looked
   looked-before few = λ masters most n all bounds is.
       let f = λ (d : ℤ). sum_by (most d) (masters_in s masters) in
-      omega (arith, few masters most n all bounds is, day-within-all (most day) masters all, sum-more f (begin_day s.window s.after) n, ap f is)
+      omega (arith, few masters most n all bounds is, day-within-all (most day) masters all, sum-more f (begin_day s) n, ap f is)
 
   module _ (coming : List Entry) (steps : ℕ) (few : (most : Recurring → ℕ) → ((m : Recurring) → IsIn m (recurring sources) → HasStepBound m coming (most m))
       → steps ≤ sum_by most (recurring sources)) where
@@ -380,29 +381,29 @@ module _ (s : Scope) (day : ℤ) (sources : List Source) (are : AreDayMasters s 
         let own = few (λ m. most (master_of m)) (bound-of masters all most bounds) in
         omega (arith, own, sum_by-map most master_of (recurring sources))
 
-    none-past : (masters : List Placed) → AreMasters s masters → last_near s.window <ℤ day → steps ≤ 0
+    none-past : (masters : List Placed) → AreMasters s masters → last_near s.window s.bounds <ℤ day → steps ≤ 0
     none-past masters all past =
-        let none = day-most masters all (λ m. 0) (λ p k m searched. absurd (none-near s.window day m.window past searched.near)) in
+        let none = day-most masters all (λ m. 0) (λ p k m searched. absurd (none-near s.window s.bounds day m.window past searched.near)) in
         omega (arith, none, sum_by-le (λ m. 0) 0 (map master_of (recurring sources)) (λ k d l. omega arith))
 
-    module _ (looked : ℕ) (before : IsLookedBefore s day sources looked) (begun : begin_day s.window s.after ≤ℤ day) where
+    module _ (looked : ℕ) (before : IsLookedBefore s day sources looked) (begun : begin_day s ≤ℤ day) where
       -- what was looked at up to a day and on it
       with-day : (masters : List Placed) (most : ℤ → Master → ℕ) (n : ℕ) → AreMasters s masters → ((d : ℤ) → AreDayBounds s masters d (most d))
-          → day <ℤ (begin_day s.window s.after +ℤ pos n)
+          → day <ℤ (begin_day s +ℤ pos n)
           → looked + steps ≤ most_in s masters most n
       with-day masters most n all bounds l =
-          let first = begin_day s.window s.after in
-          let k = unsigned_abs (day -ℤ begin_day s.window s.after) in
+          let first = begin_day s in
+          let k = unsigned_abs (day -ℤ begin_day s) in
           let f = λ (d : ℤ). sum_by (most d) (masters_in s masters) in
-          let is : (begin_day s.window s.after +ℤ pos (unsigned_abs (day -ℤ begin_day s.window s.after))) ≡ day = omega (arith, ints, begun) in
+          let is : (begin_day s +ℤ pos (unsigned_abs (day -ℤ begin_day s))) ≡ day = omega (arith, ints, begun) in
           let so-far = before masters most k all bounds is in
           let today = day-most masters all (most day) (bounds day) in
-          let within : suc (unsigned_abs (day -ℤ begin_day s.window s.after)) ≤ n = omega (arith, ints, is, l) in
+          let within : suc (unsigned_abs (day -ℤ begin_day s)) ≤ n = omega (arith, ints, is, l) in
           omega (arith, so-far, today, sum-grows f first (suc k) n within)
 
       -- before a later day's agenda
       pub looked-next : {next : ℤ} {more : ℕ} → day <ℤ next → more ≤ looked + steps → (masters : List Placed) (most : ℤ → Master → ℕ) (n : ℕ)
-          → AreMasters s masters → ((d : ℤ) → AreDayBounds s masters d (most d)) → (begin_day s.window s.after +ℤ pos n) ≡ next
+          → AreMasters s masters → ((d : ℤ) → AreDayBounds s masters d (most d)) → (begin_day s +ℤ pos n) ≡ next
           → more ≤ most_in s masters most n
       looked-next e l = λ masters most n all bounds is.
           let days = with-day masters most n all bounds (omega (arith, ints, is, e)) in
@@ -416,22 +417,22 @@ module _ (s : Scope) (day : ℤ) (sources : List Source) (are : AreDayMasters s 
           omega (arith, days, l, no-sum)
 
       -- the days up to that of what is to come
-      pub steps-most : (last_near s.window <ℤ day → looked ≡ 0) → (list : List OnDay) {bound : ℕ}
-          → (day ≤ℤ last_near s.window → day ≤ℤ first_under s.window list)
+      pub steps-most : (last_near s.window s.bounds <ℤ day → looked ≡ 0) → (list : List OnDay) {bound : ℕ}
+          → (day ≤ℤ last_near s.window s.bounds → day ≤ℤ first_under s list)
           → HasDaysBound s list bound → looked + steps ≤ bound
       steps-most past list reach h =
           ⊎_elim
           (λ far. omega (arith, past far, none-past h.masters h.are far))
           (λ near. let low = reach near in omega (arith, with-day h.masters h.most h.days h.are h.each (omega (arith, ints, low, h.reach)), h.is))
-          (less_or_not_z (last_near s.window) day)
+          (less_or_not_z (last_near s.window s.bounds) day)
 
 -- The first of what is to come stands under the day or a later one.
-pub first-day : (w : Window) {day : ℤ} (xs : List Entry) (later : List OnDay) {list : List OnDay} → list ≡ map (on_day day) xs ++ later
+pub first-day : (last : ℤ) {day : ℤ} (xs : List Entry) (later : List OnDay) {list : List OnDay} → list ≡ map (on_day day) xs ++ later
     → ((p : OnDay) → IsIn p later → day <ℤ p.day)
-    → day ≤ℤ last_near w → day ≤ℤ first_under w list
-first-day w (x ∷ xs) later e h l = rw e (omega (arith, ints))
-first-day w [] [] e h l = rw e l
-first-day w [] (p ∷ later) e h l = let less = h p (inl refl) in rw e (omega (arith, ints, less))
+    → day ≤ℤ last → day ≤ℤ day_of_first last list
+first-day last (x ∷ xs) later e h l = rw e (omega (arith, ints))
+first-day last [] [] e h l = rw e l
+first-day last [] (p ∷ later) e h l = let less = h p (inl refl) in rw e (omega (arith, ints, less))
 
 -- On the day of a key the search begins at the start in it, and on later days it need not.
 pub from-start : (after : Option DayRank) (day : ℤ) (key : Option Rank) → IsBehindKey after day key → (since : ℤ) → IsFrom key since
@@ -439,15 +440,15 @@ pub from-start : (after : Option DayRank) (day : ℤ) (key : Option Rank) → Is
 from-start None day key h since f = tt
 from-start (Some a) day key h since f = λ e. subst (λ k. IsFrom k since) (h.1 e) f
 
-pub from-later : (w : Window) (after : Option (ℤ × ℤ)) {day next : ℤ} → begin_day w after ≤ℤ day → day <ℤ next → (since : ℤ)
+pub from-later : (first : ℤ) (after : Option (ℤ × ℤ)) {day next : ℤ} → day_of_key first after ≤ℤ day → day <ℤ next → (since : ℤ)
     → IsFromStart after next since
-from-later w None low e since = tt
-from-later w (Some a) low e since = λ same. absurd (omega (arith, ints, low, e, same))
+from-later first None low e since = tt
+from-later first (Some a) low e since = λ same. absurd (omega (arith, ints, low, e, same))
 
-pub begun-by : (w : Window) (after : Option DayRank) (day : ℤ) (key : Option Rank) → IsBehindKey after day key → first_near w ≤ℤ day
-    → begin_day w (option_map day_and_start after) ≤ℤ day
-begun-by w None day key h low = low
-begun-by w (Some a) day key h low = h.0
+pub begun-by : (first : ℤ) (after : Option DayRank) (day : ℤ) (key : Option Rank) → IsBehindKey after day key → first ≤ℤ day
+    → day_of_key first (option_map day_and_start after) ≤ℤ day
+begun-by first None day key h low = low
+begun-by first (Some a) day key h low = h.0
 
 -- where there are no sources, there are no masters
 pub no-masters : (s : Scope) (day : ℤ) {sources : List Source} → sources ≡ [] → AreDayMasters s day sources
@@ -456,6 +457,7 @@ no-masters s day e = rw e tt
 -- the masters of the first day's agenda
 pub first-masters : (s : Scope) {day : ℤ} {key : Option Rank} {coming : List Entry} {sources : List Source}
     → ((since : ℤ) → IsFrom key since → IsFromStart s.after day since)
-    → IsNearAgenda s.files s.display s.window day key coming sources ⊎ IsPastAgenda s.window day coming sources → AreDayMasters s day sources
+    → IsNearAgenda s.files s.display (IsNearDay s.window s.bounds day) key coming sources
+    ⊎ IsPastAgenda (last_near s.window s.bounds) day coming sources → AreDayMasters s day sources
 first-masters s {key = key} {sources = sources} from (inl a) = searched-masters s key a.near from (recurring sources) a.are.each
 first-masters s from (inr a) = rw a.no_source tt

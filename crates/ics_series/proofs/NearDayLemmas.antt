@@ -1,4 +1,4 @@
--- Midnights before and after an instant; the days of an occurrence lie near the instants at which it meets the window.
+-- The days of an occurrence lie near the instants at which it meets the window, by two offsets between which the clock stays.
 use Rattle.std.proofs.Common.{◌≡◌, List, ℤ, pos, ◌+ℤ◌, ◌-ℤ◌, ◌⊎◌, inl, inr, ⊎_elim, true, false, refl, sym, ◌∙◌, arith, ◌<ℤ◌, ◌≤ℤ◌, int_le}
 use Rattle.std.proofs.Common.{if◌then◌else◌, int_eq, ap, Some, Less, Greater}
 use Rattle.std.specs.Cmp.{int_cmp_is}
@@ -6,14 +6,16 @@ use Rattle.std.specs.Int.{int_max, int_min}
 use Rattle.std.proofs.lemmas.Int.{int_max_is, int_min_is, ints}
 use Rattle.std.proofs.lemmas.Bool.{and_parts}
 use Rattle.ics_file.specs.File.{FileSaid}
-use Rattle.ics_zone.specs.Seconds.{IsNear}
 use Rattle.ics_zone.proofs.Cases.{int_le_true, less_or_not_z}
+use Rattle.ics_zone.specs.Seconds.{IsDay}
+use Rattle.ics_zone.specs.declared.bounds.Bounds.{Bounds}
 use Rattle.ics_fields.specs.Locals.{midnight, day_of_local}
 use Rattle.ics_listing.specs.declared.window.Window.{Window}
 use Rattle.ics_listing.specs.FileClocks.{Clock}
 use Rattle.ics_starts.specs.Clocks.{local_at}
 use Rattle.ics_series.specs.OnDays.{date_at, end_day, first_day, is_on, last_day}
-use Rattle.ics_listing.specs.DayKeys.{first_near, last_near}
+use Rattle.ics_series.specs.Inner.Offsets.{AreOffsets}
+use Rattle.ics_series.specs.NearDays.{first_near, last_near, HasOffsets, IsNearDay}
 use Rattle.ics_listing.specs.declared.key.Key.{Key}
 use Rattle.ics_listing.specs.After.{is_after}
 use Rattle.ics_listing.specs.Entry.{Entry, key_rank}
@@ -38,15 +40,46 @@ module _ (finish start day : ℤ) where
   of-last : (a b : ℤ) → start ≤ℤ finish → day ≤ℤ (if int_eq finish start then a else int_max a b) → (day ≤ℤ a) ⊎ ((start <ℤ finish) × (day ≤ℤ b))
   of-last a b l h = grind (arith, ints, int_max_is)
 
-module _ (clock : Clock) (near : (t : ℤ) → IsNear (clock.offset t)) where
-  -- the date that a clock shows is less than two days off
-  date-near : (t : ℤ) → (midnight (date_at clock t) ≤ℤ (t +ℤ pos 172_799)) × (t <ℤ (midnight (date_at clock t) +ℤ pos 259_199))
-  date-near t =
-      let under = day-under (local_at clock t) (date_at clock t) refl in
-      let off = near t in
-      (omega (arith, ints, under.0, off.0, off.1), omega (arith, ints, under.1, off.0, off.1))
+-- offsets between which a clock stays are in order
+pub bounds-offsets : (clock : Clock) (w : Window) (b : Bounds) → HasOffsets clock w b → AreOffsets b
+bounds-offsets clock w b bounded =
+    let here = bounded.offsets w.from (omega (arith, ints)) w.ordered in
+    record { ordered = omega (arith, ints, here.0, here.1); least_short = bounded.least_short; most_short = bounded.most_short }
 
-  module _ (w : Window) (o : Entry) (met : Meets w o) (forward : o.start ≤ℤ o.finish) (day : ℤ) (on : is_on clock w o day ≡ true) where
+-- A window holds something of the instants at which an offset between the two shows a day, from the first near day to the last.
+module _ (w : Window) (b : Bounds) where
+  pub day-within : (day : ℤ) → first_near w b ≤ℤ day → day ≤ℤ last_near w b
+      → (w.from <ℤ (midnight (day +ℤ pos 1) -ℤ b.least)) × ((midnight day -ℤ b.most) <ℤ w.to)
+  day-within day low high =
+      let first = day-under (w.from +ℤ b.least) (day_of_local (w.from +ℤ b.least)) refl in
+      let last = day-under ((w.to -ℤ pos 1) +ℤ b.most) (day_of_local ((w.to -ℤ pos 1) +ℤ b.most)) refl in
+      (omega (arith, ints, first.1, low), omega (arith, ints, last.0, high))
+
+  -- so that there is such a window
+  pub near-ordered : AreOffsets b → (day : ℤ) → first_near w b ≤ℤ day → day ≤ℤ last_near w b
+      → int_max w.from (midnight day -ℤ b.most) <ℤ int_min w.to (midnight (day +ℤ pos 1) -ℤ b.least)
+  near-ordered are day low high =
+      let within = day-within day low high in
+      omega (arith, ints, int_max_is, int_min_is, within.0, within.1, w.ordered, are.ordered)
+
+  -- it is of the years 0000 to 9950
+  pub day-fits : AreOffsets b → (day : ℤ) → first_near w b ≤ℤ day → day ≤ℤ last_near w b → IsDay day
+  day-fits are day low high =
+      let within = day-within day low high in (
+        omega (arith, ints, within.0, within.1, w.not_early, w.not_late, w.ordered, are.least_short, are.most_short),
+        omega (arith, ints, within.0, within.1, w.not_early, w.not_late, w.ordered, are.least_short, are.most_short),
+      )
+
+module _ (clock : Clock) (w : Window) (b : Bounds) (bounded : HasOffsets clock w b) where
+  -- the date that a clock shows at an instant of the window is that of a local between those that the two offsets show there
+  date-near : (t : ℤ) → (w.from ≤ℤ t) × (t <ℤ w.to)
+      → (midnight (date_at clock t) ≤ℤ (t +ℤ b.most)) × ((t +ℤ b.least) <ℤ midnight (date_at clock t +ℤ pos 1))
+  date-near t here =
+      let under = day-under (local_at clock t) (date_at clock t) refl in
+      let off = bounded.offsets t here.0 here.1 in
+      (omega (arith, ints, under.0, off.1), omega (arith, ints, under.1, off.0))
+
+  module _ (o : Entry) (met : Meets w o) (forward : o.start ≤ℤ o.finish) (day : ℤ) (on : is_on clock w o day ≡ true) where
     shown : (first_day clock w o ≤ℤ day) × (day ≤ℤ last_day clock w o)
     shown =
         let parts = and_parts (int_le (first_day clock w o) day) (int_le day (last_day clock w o)) on in
@@ -56,53 +89,73 @@ module _ (clock : Clock) (near : (t : ℤ) → IsNear (clock.offset t)) where
     by-length : (day ≤ℤ first_day clock w o) ⊎ ((o.start <ℤ o.finish) × (day ≤ℤ end_day clock w o))
     by-length = of-last o.finish o.start day (first_day clock w o) (end_day clock w o) forward shown.1
 
-    pub near-start : o.start <ℤ midnight (day +ℤ pos 3)
-    near-start = omega (arith, ints, (date-near (int_max o.start w.from)).1, shown.0, int_max_is o.start w.from)
+    lasting-least : (w.from <ℤ o.finish) ⊎ ((o.finish ≡ o.start) × (w.from ≤ℤ o.start)) → w.from ≤ℤ int_max o.start (o.finish -ℤ pos 1)
+    lasting-least (inl l) = omega (arith, ints, l, int_max_is)
+    lasting-least (inr l) = let low = l.1 in omega (arith, ints, low, int_max_is)
 
-    near-finish : (from : ℤ) → from ≡ int_max w.from (midnight (day -ℤ pos 2)) → (from <ℤ o.finish) ⊎ ((o.finish ≡ o.start) × (from ≤ℤ o.start))
+    -- the later of its start and the window's is in the window
+    within-start : (w.from ≤ℤ int_max o.start w.from) × (int_max o.start w.from <ℤ w.to)
+    within-start =
+        let is = int_max_is o.start w.from in
+        let begun = met.begun in
+        (omega (arith, ints, is), omega (arith, ints, is, begun, w.ordered))
+
+    -- and so is its last second before both its finish and the window's end, if it lasts
+    within-end : o.start <ℤ o.finish → (w.from ≤ℤ (int_min o.finish w.to -ℤ pos 1)) × ((int_min o.finish w.to -ℤ pos 1) <ℤ w.to)
+    within-end lasts =
+        let is = int_min_is o.finish w.to in
+        let least = lasting-least met.lasting in
+        let most = int_max_is o.start (o.finish -ℤ pos 1) in
+        (omega (arith, ints, is, least, most, lasts, w.ordered), omega (arith, ints, is))
+
+    near-start : (o.start +ℤ b.least) <ℤ midnight (day +ℤ pos 1)
+    near-start = omega (arith, ints, (date-near (int_max o.start w.from) within-start).1, shown.0, int_max_is o.start w.from)
+
+    near-finish : (from : ℤ) → from ≡ int_max w.from (midnight day -ℤ b.most) → (from <ℤ o.finish) ⊎ ((o.finish ≡ o.start) × (from ≤ℤ o.start))
     near-finish from e =
-        let low = (date-near (int_max o.start w.from)).0 in
-        let end = (date-near (int_min o.finish w.to -ℤ pos 1)).0 in
+        let low = (date-near (int_max o.start w.from) within-start).0 in
         let least = lasting-least met.lasting in
         lasts-from from o.start o.finish forward
         (⊎_elim (λ k. omega (arith, ints, e, least, forward, low, k, int_max_is))
-        (λ k. omega (arith, ints, e, least, end, k.0, k.1, int_max_is, int_min_is)) by-length)
-      where
-        lasting-least : (w.from <ℤ o.finish) ⊎ ((o.finish ≡ o.start) × (w.from ≤ℤ o.start)) → w.from ≤ℤ int_max o.start (o.finish -ℤ pos 1)
-        lasting-least (inl l) = omega (arith, ints, l, int_max_is)
-        lasting-least (inr l) = let low = l.1 in omega (arith, ints, low, int_max_is)
+        (λ k.
+        let end = (date-near (int_min o.finish w.to -ℤ pos 1) (within-end k.0)).0 in
+        omega (arith, ints, e, least, end, k.0, k.1, int_max_is, int_min_is)) by-length)
 
     -- so it meets what the window holds near one of its days
-    pub meets-near : (n : Window) → n.from ≡ int_max w.from (midnight (day -ℤ pos 2)) → n.to ≡ int_min w.to (midnight (day +ℤ pos 3)) → n.notstarted ≡ false →
-        Meets n o
-    meets-near n from to all = record {
-      begun = let start = near-start in let begun = met.begun in omega (arith, ints, to, start, begun, int_min_is w.to (midnight (day +ℤ pos 3)));
-      lasting = near-finish n.from from;
-      started = λ s. let f : false ≡ true = sym all ∙ s in absurd cc;
+    pub meets-near : (n : Window) → IsNearDay w b day n → Meets n o
+    meets-near n near = record {
+      begun =
+          let start = near-start in
+          let begun = met.begun in
+          let to = near.to in
+          omega (arith, ints, to, start, begun, int_min_is w.to (midnight (day +ℤ pos 1) -ℤ b.least));
+      lasting = near-finish n.from near.from;
+      started = λ s. let f : false ≡ true = sym near.all ∙ s in absurd cc;
     }
 
     -- and that is one of the days that a clock can show in the window
-    pub near-first : first_near w ≤ℤ day
+    pub near-first : first_near w b ≤ℤ day
     near-first =
-        let under = day-under w.from (day_of_local w.from) refl in
-        omega (arith, ints, (date-near (int_max o.start w.from)).1, shown.0, under.0, int_max_is o.start w.from)
+        let under = day-under (w.from +ℤ b.least) (day_of_local (w.from +ℤ b.least)) refl in
+        omega (arith, ints, (date-near (int_max o.start w.from) within-start).1, shown.0, under.0, int_max_is o.start w.from)
 
-    pub near-last : day ≤ℤ last_near w
+    pub near-last : day ≤ℤ last_near w b
     near-last =
-        let under = day-under (w.to -ℤ pos 1) (day_of_local (w.to -ℤ pos 1)) refl in
-        let start = (date-near (int_max o.start w.from)).0 in
-        let end = (date-near (int_min o.finish w.to -ℤ pos 1)).0 in
+        let under = day-under ((w.to -ℤ pos 1) +ℤ b.most) (day_of_local ((w.to -ℤ pos 1) +ℤ b.most)) refl in
+        let start = (date-near (int_max o.start w.from) within-start).0 in
         ⊎_elim (λ k. omega (arith, ints, k, under.1, met.begun, w.ordered, start, int_max_is o.start w.from))
-        (λ h. omega (arith, ints, h.1, under.1, end, int_min_is o.finish w.to)) by-length
+        (λ h.
+        let end = (date-near (int_min o.finish w.to -ℤ pos 1) (within-end h.0)).0 in
+        omega (arith, ints, h.1, under.1, end, int_min_is o.finish w.to)) by-length
 
     -- nor is one past the last that the clock can show there
-    pub shown-by : (last : ℤ) → ((t : ℤ) → t <ℤ w.to → date_at clock t ≤ℤ last) → day ≤ℤ last
+    pub shown-by : (last : ℤ) → ((t : ℤ) → w.from ≤ℤ t → t <ℤ w.to → date_at clock t ≤ℤ last) → day ≤ℤ last
     shown-by last most =
         ⊎_elim
+        (λ k. let under = most (int_max o.start w.from) within-start.0 within-start.1 in omega (arith, ints, k, under))
         (λ k.
-        let under = most (int_max o.start w.from) (omega (arith, ints, met.begun, w.ordered, int_max_is o.start w.from)) in omega (arith, ints, k, under))
-        (λ k.
-        let under = most (int_min o.finish w.to -ℤ pos 1) (omega (arith, ints, int_min_is o.finish w.to)) in omega (arith, ints, k.1, under)) by-length
+        let within = within-end k.0 in
+        let under = most (int_min o.finish w.to -ℤ pos 1) within.0 within.1 in omega (arith, ints, k.1, under)) by-length
 
 -- a later instant is not on an earlier day
 day-rises : (a b : ℤ) → a ≤ℤ b → day_of_local a ≤ℤ day_of_local b
@@ -119,17 +172,11 @@ module _ {day seconds : ℤ} (is : day ≡ day_of_local seconds) where
   pub last-shown : (clock : Clock) (t : ℤ) → local_at clock t ≤ℤ seconds → date_at clock t ≤ℤ day
   last-shown clock t high = let rise = day-rises (local_at clock t) seconds high in omega (arith, ints, is, rise)
 
-pub first-within : (w : Window) (seconds : ℤ) {day : ℤ} → day ≡ day_of_local seconds → (pos 0 -ℤ pos 172_799) ≤ℤ (seconds -ℤ w.from) → first_near w ≤ℤ day
-first-within w seconds is short =
-    let own = day-under seconds (day_of_local seconds) refl in
-    let from = day-under w.from (day_of_local w.from) refl in
-    omega (arith, ints, is, short, own.0, own.1, from.0, from.1)
+  pub first-within : (w : Window) (b : Bounds) → (w.from +ℤ b.least) ≤ℤ seconds → first_near w b ≤ℤ day
+  first-within w b low = let rise = day-rises (w.from +ℤ b.least) seconds low in omega (arith, ints, is, rise)
 
-pub last-within : (w : Window) (seconds : ℤ) {day : ℤ} → day ≡ day_of_local seconds → (seconds -ℤ (w.to -ℤ pos 1)) ≤ℤ pos 172_799 → day ≤ℤ last_near w
-last-within w seconds is short =
-    let own = day-under seconds (day_of_local seconds) refl in
-    let last = day-under (w.to -ℤ pos 1) (day_of_local (w.to -ℤ pos 1)) refl in
-    omega (arith, ints, is, short, own.0, own.1, last.0, last.1)
+  pub last-within : (w : Window) (b : Bounds) → seconds ≤ℤ ((w.to -ℤ pos 1) +ℤ b.most) → day ≤ℤ last_near w b
+  last-within w b high = let rise = day-rises seconds ((w.to -ℤ pos 1) +ℤ b.most) high in omega (arith, ints, is, rise)
 
 -- What is shown under a day before that of the window's first instant begins after it.
 pub begins-later : (clock : Clock) (w : Window) (o : Entry) {day : ℤ} → is_on clock w o day ≡ true → day <ℤ date_at clock w.from → w.from <ℤ o.start

@@ -6,7 +6,6 @@ use Rattle.std.proofs.Common.{◌≡◌, ℤ, List, [], ◌∷◌, ◌++◌, map
 use Rattle.std.proofs.lemmas.Cmp.{int_cmp_total, on_total, then_total, tied_itself}
 use Rattle.std.proofs.lemmas.Bool.{and_from, and_parts}
 use Rattle.ics_file.specs.File.{FileSaid}
-use Rattle.ics_zone.specs.Seconds.{IsNear}
 use Rattle.ics_listing.specs.declared.window.Window.{Window}
 use Rattle.ics_series.specs.Ahead.{is_today, today}
 use Rattle.ics_listing.specs.FileClocks.{Clock}
@@ -36,7 +35,7 @@ rises-under day xs h =
 pub day-first : (p q : OnDay) → p.day <ℤ q.day → on_day_cmp p q ≡ Less
 day-first p q h = ap (λ c. ordering_then c (rank_cmp (rank_of p.entry) (rank_of q.entry))) (sym (int_cmp_is p.day q.day Less h))
 
-module _ (files : List FileSaid) (display : Clock) (near : (t : ℤ) → IsNear (display.offset t)) (w : Window) where
+module _ (files : List FileSaid) (display : Clock) (w : Window) where
   -- what is shown under a day: occurrences that meet the window and have the day there
   pub shown-today : (p : OnDay) → IsOnDay files display w p → is_today display w p.day p.entry ≡ true
   shown-today p s = and_from (is_met w p.entry) (is_on display w p.entry p.day) (meets-is_met w p.entry s.listed.1) s.on

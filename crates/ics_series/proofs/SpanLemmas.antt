@@ -14,14 +14,16 @@ use Rattle.ics_file.specs.File.{FileSaid}
 use Rattle.ics_event.specs.declared.event.Event.{Event}
 use Rattle.ics_fields.specs.Locals.{day_of_local, midnight}
 use Rattle.ics_zone.proofs.Cases.{int_le_false, less_or_not_z, true_int_le, true_int_lt}
-use Rattle.ics_zone.specs.Seconds.{IsNear}
+use Rattle.ics_zone.specs.declared.bounds.Bounds.{Bounds}
+use Rattle.ics_starts.specs.Clocks.{instant}
+use Rattle.ics_series.specs.Inner.Offsets.{AreOffsets}
+use Rattle.ics_series.specs.NearDays.{first_near, last_near, HasOffsets, IsNearDay}
 use Rattle.ics_starts.specs.declared.series.Series.{Series}
 use Rattle.ics_series.specs.declared.span.Span.{Span}
 use Rattle.ics_series.specs.declared.version.Version.{Version}
 use Rattle.ics_listing.specs.declared.window.Window.{Window}
 use Rattle.ics_series.specs.Chosen.{overridden, subject_of, IsChosen}
 use Rattle.ics_listing.specs.FileClocks.{Clock, Clocks}
-use Rattle.ics_starts.specs.Clocks.{instant}
 use Rattle.ics_listing.specs.Entry.{entry_cmp, Entry, Rank}
 use Rattle.ics_series.specs.Laws.{HasVersion}
 use Rattle.ics_listing.specs.Listing.{IsIn, IsListing}
@@ -31,7 +33,6 @@ use Rattle.ics_listing.specs.WindowMeeting.{is_met}
 use Rattle.ics_series.specs.Meets.{IsListed}
 use Rattle.ics_starts.specs.MeetsWindow.{Meets}
 use Rattle.ics_listing.specs.Merged.{merged}
-use Rattle.ics_listing.specs.DayKeys.{first_near, last_near, IsNearDay}
 use Rattle.ics_series.specs.PlacedEvents.{Placed, IsPlaced, clocks_at}
 use Rattle.ics_listing.specs.Rising.{Rises}
 use Rattle.ics_starts.specs.SingleEvents.{begun_first, entry_first, is_single}
@@ -49,7 +50,8 @@ use Rattle.ics_series.specs.Versions.{by_subject, label_of, placed_in, seen, Are
 use Rattle.ics_series.proofs.AheadLemmas.{near-under, shown-first, shown-last, NoneBetween}
 use Rattle.ics_listing.proofs.Cases.{not-true}
 use Rattle.ics_listing.proofs.ListingLemmas.{contains-in, get-in, one-listing}
-use Rattle.ics_listing.proofs.NearLemmas.{day-under, day-within}
+use Rattle.ics_listing.proofs.NearLemmas.{day-under}
+use Rattle.ics_series.proofs.NearDayLemmas.{bounds-offsets, day-within, near-ordered}
 use Rattle.ics_starts.proofs.MeetsLemmas.{is_met-meets, meets-is_met}
 use Rattle.ics_series.proofs.MarkLemmas.{first_source}
 use Rattle.ics_series.proofs.RecurringLemmas.{recurring-master}
@@ -343,24 +345,24 @@ module _ (files : List FileSaid) (display : Clock) (w : Window) (floor : Option 
       (rw (is.clocks, is.window) at own)
 
 -- The windows near days.
-pub near-later : {w m n : Window} {x y : ℤ} → IsNearDay w x m → IsNearDay w y n → x ≤ℤ y → IsLater m n
-near-later {w = w} {x = x} {y = y} a b l = record {
-  from = omega (arith, ints, a.from, b.from, l, int_max_is w.from (midnight (x -ℤ pos 2)), int_max_is w.from (midnight (y -ℤ pos 2)));
-  same = a.all ∙ sym b.all;
+pub near-later : {w m n : Window} {b : Bounds} {x y : ℤ} → IsNearDay w b x m → IsNearDay w b y n → x ≤ℤ y → IsLater m n
+near-later {w = w} {b = b} {x = x} {y = y} h k l = record {
+  from = omega (arith, ints, h.from, k.from, l, int_max_is w.from (midnight x -ℤ b.most), int_max_is w.from (midnight y -ℤ b.most));
+  same = h.all ∙ sym k.all;
 }
 
 -- Spans moved on near a day are those near each later day.
-module _ (files : List FileSaid) (display : Clock) (w : Window) (vs : List Version) {day next : ℤ} {old new : List Span} (size : length old ≡ length vs)
-    (are : AreSpansAfter files display w day (map seen vs) old) {m : Window} (near : IsNearDay w next m)
+module _ (files : List FileSaid) (display : Clock) (b : Bounds) (w : Window) (vs : List Version) {day next : ℤ} {old new : List Span}
+    (size : length old ≡ length vs) (are : AreSpansAfter files display b w day (map seen vs) old) {m : Window} (near : IsNearDay w b next m)
     (moved : AreMovedOn files display m (floor_of w) (map seen vs) old new) where
-  pub after-next : day <ℤ next → AreSpansAfter files display w next (map seen vs) new
+  pub after-next : day <ℤ next → AreSpansAfter files display b w next (map seen vs) new
   after-next on x n later h =
       moved.still n (near-later near h (omega (arith, ints, later))) (are x n (omega (arith, ints, later, on)) h)
 
   -- also where the day stays, since nothing is near the days between
   pub after-same : AreChosen files display vs
-      → ((x : ℤ) → day <ℤ x → x <ℤ next → (s : Span) → IsIn s old → (n : Window) → IsNearDay w x n → can_meet s n ≡ false)
-      → AreSpansAfter files display w day (map seen vs) new
+      → ((x : ℤ) → day <ℤ x → x <ℤ next → (s : Span) → IsIn s old → (n : Window) → IsNearDay w b x n → can_meet s n ≡ false)
+      → AreSpansAfter files display b w day (map seen vs) new
   after-same chosen none x n later h = elim (less_or_not_z x next) [
     | inl before ↦ λ k s l event at place stands out. none-of files display vs chosen old size n (are x n later h) (λ s m. none x later before s m n h) l event
         (get-in l (map seen vs) k place) stands
@@ -368,19 +370,19 @@ module _ (files : List FileSaid) (display : Clock) (w : Window) (vs : List Versi
   ]
 
 -- what a window holds near a day
-pub near-window : (w : Window) (day : ℤ) → first_near w ≤ℤ day → day ≤ℤ last_near w → (n : Window) × IsNearDay w day n
-near-window w day low high =
-    let within = day-within w day low high in (
-      record {
-        from = int_max w.from (midnight (day -ℤ pos 2));
-        to = int_min w.to (midnight (day +ℤ pos 3));
-        notstarted = false;
-        ordered = omega (arith, ints, int_max_is, int_min_is, within, w.ordered);
-        not_early = omega (arith, ints, int_max_is, w.not_early);
-        not_late = omega (arith, ints, int_min_is, w.not_late);
-      },
-      record { from = refl; to = refl; all = refl },
-    )
+pub near-window : (w : Window) (b : Bounds) → AreOffsets b → (day : ℤ) → first_near w b ≤ℤ day → day ≤ℤ last_near w b
+    → (n : Window) × IsNearDay w b day n
+near-window w b are day low high = (
+  record {
+    from = int_max w.from (midnight day -ℤ b.most);
+    to = int_min w.to (midnight (day +ℤ pos 1) -ℤ b.least);
+    notstarted = false;
+    ordered = near-ordered w b are day low high;
+    not_early = omega (arith, ints, int_max_is, w.not_early);
+    not_late = omega (arith, ints, int_min_is, w.not_late);
+  },
+  record { from = refl; to = refl; all = refl },
+)
 
 -- The first that can begin.
 module _ (from : ℤ) where
@@ -410,22 +412,22 @@ module _ (from : ℤ) where
           inl (omega (arith, ints, less, same))
 
 -- The day from which on something can be: near the days before it nothing is.
-module _ (w : Window) (spans : List Span) {day first reached next : ℤ} (low : first_near w ≤ℤ day) (most : next ≤ℤ last_near w)
-    (is : first ≡ int_max (first_of (midnight (day -ℤ pos 1)) w.to spans) w.from) (at : reached ≡ day_of_local first -ℤ pos 2)
-    (day-is : next ≤ℤ int_max reached (day +ℤ pos 1)) where
-  pub none-near : (x : ℤ) → day <ℤ x → x <ℤ next → (s : Span) → IsIn s spans → (n : Window) → IsNearDay w x n → can_meet s n ≡ false
+module _ (w : Window) (b : Bounds) (spans : List Span) {day from first reached next : ℤ} (low : first_near w b ≤ℤ day) (most : next ≤ℤ last_near w b)
+    (begin : from ≡ midnight (day +ℤ pos 1) -ℤ b.most) (is : first ≡ int_max (first_of from w.to spans) w.from)
+    (at : reached ≡ day_of_local (first +ℤ b.least)) (day-is : next ≤ℤ int_max reached (day +ℤ pos 1)) where
+  pub none-near : (x : ℤ) → day <ℤ x → x <ℤ next → (s : Span) → IsIn s spans → (n : Window) → IsNearDay w b x n → can_meet s n ≡ false
   none-near x later early s m n near =
-      let under = day-under first (day_of_local first) refl in
-      let within = day-within w x (omega (arith, ints, low, later)) (omega (arith, ints, most, early)) in
+      let under = day-under (first +ℤ b.least) (day_of_local (first +ℤ b.least)) refl in
+      let within = day-within w b x (omega (arith, ints, low, later)) (omega (arith, ints, most, early)) in
       let before : x <ℤ reached = omega (arith, ints, later, early, day-is, int_max_is reached (day +ℤ pos 1)) in
-      let least = int_max_is (first_of (midnight (day -ℤ pos 1)) w.to spans) w.from in
-      let ends : n.to ≤ℤ first_of (midnight (day -ℤ pos 1)) w.to spans =
-      omega (arith, ints, near.to, int_min_is w.to (midnight (x +ℤ pos 3)), under.0, before, at, is, least, within.0) in
-      let begins : midnight (day -ℤ pos 1) ≤ℤ n.from = omega (arith, ints, near.from, int_max_is w.from (midnight (x -ℤ pos 2)), later) in
+      let least = int_max_is (first_of from w.to spans) w.from in
+      let ends : n.to ≤ℤ first_of from w.to spans =
+      omega (arith, ints, near.to, int_min_is w.to (midnight (x +ℤ pos 1) -ℤ b.least), under.0, before, at, is, least, within.0) in
+      let begins : from ≤ℤ n.from = omega (arith, ints, begin, near.from, int_max_is w.from (midnight x -ℤ b.most), later) in
       ⊎_elim
       (λ over. cannot-end s n (omega (arith, ints, over, begins)))
       (λ late. cannot-begin s n (omega (arith, ints, late, ends)))
-      (first-each (midnight (day -ℤ pos 1)) w.to s spans m)
+      (first-each from w.to s spans m)
     where
       cannot-begin : (s : Span) (n : Window) → n.to ≤ℤ s.first → can_meet s n ≡ false
       cannot-begin s n l = grind (arith, ints, l)
@@ -449,15 +451,16 @@ spans-floor files display w floor labels spans are k s l event at there stands o
     record { once = none.once; each = λ recurs o of meets started. none.each recurs o of meets tt }
 
 -- So nothing is shown under them.
-module _ (files : List FileSaid) (display : Clock) (near : (t : ℤ) → IsNear (display.offset t)) (w : Window) (vs : List Version)
+module _ (files : List FileSaid) (display : Clock) (w : Window) (b : Bounds) (bounded : HasOffsets display w b) (vs : List Version)
     (chosen : AreChosen files display vs) (spans : List Span) (size : length spans ≡ length vs) where
-  pub none-between : {day next : ℤ} → AreSpansAfter files display w day (map seen vs) spans
-      → ((x : ℤ) → day <ℤ x → x <ℤ next → (s : Span) → IsIn s spans → (n : Window) → IsNearDay w x n → can_meet s n ≡ false)
-      → NoneBetween files display near w day next
+  pub none-between : {day next : ℤ} → AreSpansAfter files display b w day (map seen vs) spans
+      → ((x : ℤ) → day <ℤ x → x <ℤ next → (s : Span) → IsIn s spans → (n : Window) → IsNearDay w b x n → can_meet s n ≡ false)
+      → NoneBetween files display w b bounded day next
   none-between {day = day} {next = next} are none p shown later =
       ⊎_elim
       (λ early.
-      let n = near-window w p.day (shown-first files display near w p shown) (shown-last files display near w p shown) in
+      let n = near-window w b (bounds-offsets display w b bounded) p.day (shown-first files display w b bounded p shown)
+      (shown-last files display w b bounded p shown) in
       absurd (none-out files display vs chosen spans size n.0 (are p.day n.0 later n.1) (λ s m. none p.day later early s m n.0 n.1) p.entry
-      (shown.listed.0, near-under files display near w n.0 n.1 p (shown, refl)) (meets-floor w p.entry shown.listed.1)))
+      (shown.listed.0, near-under files display w b bounded n.0 n.1 p (shown, refl)) (meets-floor w p.entry shown.listed.1)))
       (λ l. l) (less_or_not_z p.day next)

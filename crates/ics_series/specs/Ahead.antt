@@ -43,7 +43,7 @@ agenda_coming agenda = filter (is_kept (map seen agenda.overrides.items)) (merge
 
 -- what it is of
 abbrev pub scope_of : Days → Scope
-scope_of days = scope_in (map said_by days.files.now) (display_clock days.display.now) days.window days.after
+scope_of days = scope_in (map said_by days.files.now) (display_clock days.display.now) days.bounds days.window days.after
 
 -- this list is still to come
 abbrev pub IsAhead : Days → List OnDay → Type 0

@@ -7,12 +7,13 @@ use Rattle.ics_series.specs.declared.agenda.Agenda.{Agenda}
 use Rattle.ics_listing.specs.declared.window.Window.{Window}
 use Rattle.ics_series.specs.Chosen.{IsMaster}
 use Rattle.ics_listing.specs.FileClocks.{Clock}
-use Rattle.ics_listing.specs.DayKeys.{DayRank, last_near, IsNearDay, first_near, OnDay}
+use Rattle.ics_listing.specs.DayKeys.{DayRank, OnDay}
 use Rattle.ics_listing.specs.Entry.{entry_cmp, Entry, Rank}
 use Rattle.ics_series.specs.HeldMost.{Master}
 use Rattle.ics_series.specs.Holding.{part_holds, part_looked}
 use Rattle.ics_listing.specs.Listing.{IsListing, IsIn}
 use Rattle.ics_series.specs.Meets.{IsToCome}
+use Rattle.ics_series.specs.NearDays.{first_near, last_near, IsNearDay}
 use Rattle.ics_listing.specs.Merges.{merge_all, merge_holds, merge_looked}
 use Rattle.ics_series.specs.AgendaParts.{part_sources}
 use Rattle.ics_series.specs.PlacedEvents.{Placed}
@@ -20,23 +21,26 @@ use Rattle.ics_series.specs.Sources.{master_at, master_of, recurring, AreSources
 use Rattle.ics_listing.specs.FeedSources.{Recurring, Source}
 use Rattle.ics_series.specs.Versions.{by_subject}
 use Rattle.ics_series.specs.Steps.{HasStepBound}
+use Rattle.ics_zone.specs.declared.bounds.Bounds.{Bounds}
 
--- The files and the display clock, the window and, for a listing after a key, the day and the start in that.
+-- The files, the display clock with two offsets between which it stays in the window, that window and, for a listing after a key, the day and the start
+-- in that.
 pub record Scope : Type 0 where
   pub files : List FileSaid
   pub display : Clock
+  pub bounds : Bounds
   pub window : Window
   pub after : Option (ℤ × ℤ)
 
-abbrev pub scope_in : List FileSaid → Clock → Window → Option (ℤ × ℤ) → Scope
-scope_in files display w after = record { files = files; display = display; window = w; after = after }
+abbrev pub scope_in : List FileSaid → Clock → Bounds → Window → Option (ℤ × ℤ) → Scope
+scope_in files display b w after = record { files = files; display = display; bounds = b; window = w; after = after }
 
 -- the day and the start in a key
 abbrev pub day_and_start : DayRank → ℤ × ℤ
 day_and_start key = (key.day, key.key.start)
 
-abbrev pub scope_by : List FileSaid → Clock → Window → Option DayRank → Scope
-scope_by files display w after = scope_in files display w (option_map day_and_start after)
+abbrev pub scope_by : List FileSaid → Clock → Bounds → Window → Option DayRank → Scope
+scope_by files display b w after = scope_in files display b w (option_map day_and_start after)
 
 -- these are the masters of its files
 abbrev pub AreMasters : Scope → List Placed → Type 0
@@ -66,7 +70,7 @@ IsFromStart (Some after) day since = day ≡ after.0 → after.1 ≤ℤ since
 -- a master in what the window holds near a day, from such an instant on
 pub record IsSearched (s : Scope) (day : ℤ) (master : Master) (m : Recurring) : Type 0 where
   pub same : master_of m ≡ master
-  pub near : IsNearDay s.window day m.window
+  pub near : IsNearDay s.window s.bounds day m.window
   pub from : IsFromStart s.after day m.since
 
 -- it is so of the master of its UID in the folder
@@ -79,29 +83,35 @@ pub record IsDayMaster (s : Scope) (day : ℤ) (m : Recurring) : Type 0 where
 abbrev pub AreDayMasters : Scope → ℤ → List Source → Type 0
 AreDayMasters s day sources = AllByRecursion (IsDayMaster s day) (recurring sources)
 
--- The search near a day and behind a key: an agenda has this to come, and these sources.
-pub record IsNearAgenda (files : List FileSaid) (display : Clock) (w : Window) (day : ℤ) (key : Option Rank) (coming : List Entry)
+-- The search in a window near a day and behind a key: an agenda has this to come, and these sources.
+pub record IsNearAgenda (files : List FileSaid) (display : Clock) (IsNear : Window → Type 0) (key : Option Rank) (coming : List Entry)
     (sources : List Source) : Type 0 where
   pub window : Window
-  pub near : IsNearDay w day window
+  pub near : IsNear window
   pub listing : IsListing entry_cmp (IsToCome files display window key) coming
   pub are : AreSources files display window key sources
 
 -- past the last day there is nothing to search
-pub record IsPastAgenda (w : Window) (day : ℤ) (coming : List Entry) (sources : List Source) : Type 0 where
-  pub past : last_near w <ℤ day
+pub record IsPastAgenda (last day : ℤ) (coming : List Entry) (sources : List Source) : Type 0 where
+  pub past : last <ℤ day
   pub none : coming ≡ []
   pub no_source : sources ≡ []
 
--- The day with which a listing begins: that of the key, or without one the first that a clock can show in the window.
-abbrev pub begin_day : Window → Option (ℤ × ℤ) → ℤ
-begin_day w None = first_near w
-begin_day w (Some after) = after.0
+-- The day with which a listing begins: that of the key, or without one the first that its clock can show in the window.
+abbrev pub day_of_key : ℤ → Option (ℤ × ℤ) → ℤ
+day_of_key first None = first
+day_of_key first (Some after) = after.0
 
--- the day of the first of a list or, where it is empty, the last that a clock can show in the window
-abbrev pub first_under : Window → List OnDay → ℤ
-first_under w [] = last_near w
-first_under w (p ∷ list) = p.day
+abbrev pub begin_day : Scope → ℤ
+begin_day s = day_of_key (first_near s.window s.bounds) s.after
+
+-- the day of the first of a list or, where it is empty, the last that the clock can show in the window
+abbrev pub day_of_first : ℤ → List OnDay → ℤ
+day_of_first last [] = last
+day_of_first last (p ∷ list) = p.day
+
+abbrev pub first_under : Scope → List OnDay → ℤ
+first_under s list = day_of_first (last_near s.window s.bounds) list
 
 -- most bounds the periods of the master's rule that are looked at near a day, with nothing to come there
 abbrev pub HasDayBound : Scope → ℤ → Master → ℕ → Type 0
@@ -118,13 +128,13 @@ sum_days f day (suc n) = sum_days f day n + f (day +ℤ pos n)
 
 -- the sum of the bounds for all masters and so many days, from the listing's first on
 abbrev pub most_in : Scope → List Placed → (ℤ → Master → ℕ) → ℕ → ℕ
-most_in s masters most n = sum_days (λ day. sum_by (most day) (masters_in s masters)) (begin_day s.window s.after) n
+most_in s masters most n = sum_days (λ day. sum_by (most day) (masters_in s masters)) (begin_day s) n
 
 -- the number of periods that were looked at before a day's agenda is, with the bounds for the masters in that agenda, within all such bounds up to the day
 abbrev pub IsLookedBefore : Scope → ℤ → List Source → ℕ → Type 0
 IsLookedBefore s day sources looked =
     (masters : List Placed) (most : ℤ → Master → ℕ) (n : ℕ) → AreMasters s masters → ((d : ℤ) → AreDayBounds s masters d (most d))
-    → (begin_day s.window s.after +ℤ pos n) ≡ day → looked + sum_by (most day) (map master_of (recurring sources)) ≤ most_in s masters most (suc n)
+    → (begin_day s +ℤ pos n) ≡ day → looked + sum_by (most day) (map master_of (recurring sources)) ≤ most_in s masters most (suc n)
 
 -- The bound for a listing of which this is still to come: of days in a row that begin with its first and reach that of the first to come
 pub record HasDaysBound (s : Scope) (list : List OnDay) (bound : ℕ) : Type 0 where
@@ -133,5 +143,5 @@ pub record HasDaysBound (s : Scope) (list : List OnDay) (bound : ℕ) : Type 0 w
   pub most : ℤ → Master → ℕ
   pub each : (day : ℤ) → AreDayBounds s masters day (most day)
   pub days : ℕ
-  pub reach : first_under s.window list <ℤ (begin_day s.window s.after +ℤ pos days)
+  pub reach : first_under s list <ℤ (begin_day s +ℤ pos days)
   pub is : bound ≡ most_in s masters most days

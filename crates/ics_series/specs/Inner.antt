@@ -2,6 +2,7 @@
 pub mod Beginnings
 pub mod Marks
 pub mod Masters
+pub mod Offsets
 pub mod SpanLaws
 pub mod Spans
 pub mod Whole

@@ -48,6 +48,7 @@ pub mod HeldMost
 pub mod Holding
 pub mod Laws
 pub mod Meets
+pub mod NearDays
 pub mod Occurs
 pub mod OnDays
 pub mod Overridden

@@ -12,7 +12,7 @@ use Rattle.ics_series.specs.Meets.{IsListed}
 use Rattle.ics_starts.specs.MeetsWindow.{Meets}
 use Rattle.ics_listing.specs.After.{is_after}
 use Rattle.ics_listing.specs.Listing.{IsListing}
-use Rattle.ics_listing.specs.DayKeys.{DayRank, OnDay, day_rank_of, on_day_cmp, is_day_after, after_day_key, first_near}
+use Rattle.ics_listing.specs.DayKeys.{DayRank, OnDay, day_rank_of, on_day_cmp, is_day_after, after_day_key}
 
 -- the date that a clock shows
 abbrev pub date_at : Clock → ℤ → ℤ
@@ -41,10 +41,10 @@ pub record IsOnDay (files : List FileSaid) (display : Clock) (w : Window) (p : O
 
 -- Of what is shown in a window, what comes after the key of a day is what stands under later days than this one, and under this one what comes
 -- after the key.
-pub record Begins (clock : Clock) (w : Window) (after : Option DayRank) (day : ℤ) (key : Option Rank) : Type 0 where
-  pub low : first_near w ≤ℤ day
-  pub behind : (p : OnDay) → Meets w p.entry → is_on clock w p.entry p.day ≡ true
-      → is_day_after after p ≡ (int_lt day p.day || (int_eq p.day day && is_after key p.entry))
+abbrev pub Begins : Clock → Window → Option DayRank → ℤ → Option Rank → Type 0
+Begins clock w after day key =
+    (p : OnDay) → Meets w p.entry → is_on clock w p.entry p.day ≡ true
+    → is_day_after after p ≡ (int_lt day p.day || (int_eq p.day day && is_after key p.entry))
 
 -- a listing begins on the day of the key or later, and on that day behind the key itself
 abbrev pub IsBehindKey : Option DayRank → ℤ → Option Rank → Type 0

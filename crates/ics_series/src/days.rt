@@ -7,18 +7,20 @@ ghost use Rattle.std.specs.Option.{option_map};
 ghost use Rattle.ics_fields.specs.Days.{IsDayNumber};
 ghost use Rattle.ics_file.specs.File.{said_by};
 ghost use Rattle.ics_starts.specs.Clocks.{display_clock};
-ghost use Rattle.ics_listing.specs.DayKeys.{day_key_rank, day_rank_of, first_near, last_near, IsNearDay, after_day_key, on_day_cmp, GivesOnDay, OnDay};
+ghost use Rattle.ics_listing.specs.DayKeys.{day_key_rank, day_rank_of, after_day_key, on_day_cmp, GivesOnDay, OnDay};
 ghost use Rattle.ics_listing.specs.After.{is_after};
 ghost use Rattle.ics_series.specs.OnDays.{date_at, is_on, Begins, IsBehindKey, IsOnDay};
 ghost use Rattle.ics_series.specs.DaySteps.{agenda_holds, agenda_looked, agenda_sources, day_and_start, masters_in, scope_by, scope_in, AreDayMasters};
-ghost use Rattle.ics_series.specs.DaySteps.{AreMasters, IsNearAgenda, IsPastAgenda, begin_day, HasDaysBound, IsLookedBefore};
+ghost use Rattle.ics_series.specs.DaySteps.{AreMasters, IsNearAgenda, IsPastAgenda, day_of_key, HasDaysBound, IsLookedBefore};
+ghost use Rattle.ics_series.specs.NearDays.{first_near, last_near, HasOffsets, IsNearDay};
+ghost use Rattle.ics_series.specs.Inner.Offsets.{AreOffsets};
 ghost use Rattle.ics_listing.specs.Entry.{key_rank, Entry};
 ghost use Rattle.ics_series.specs.HeldMost.{held_most};
 ghost use Rattle.ics_listing.specs.Listing.{IsIn, IsListing};
 ghost use Rattle.ics_series.specs.Inner.Marks.{marks-prop, AreMarks};
 ghost use Rattle.ics_starts.specs.MeetsWindow.{Meets};
 ghost use Rattle.ics_series.specs.PlacedEvents.{Placed};
-ghost use Rattle.ics_series.specs.Inner.SpanLaws.{spans-after-prop, those-chosen-prop, AreThoseChosen};
+ghost use Rattle.ics_series.specs.Inner.SpanLaws.{offsets-prop, spans-after-prop, those-chosen-prop, AreThoseChosen};
 ghost use Rattle.ics_series.specs.Inner.Spans.{can_meet, first_of, floor_of, span_at, AreSpansAfter, IsStartedBy};
 ghost use Rattle.ics_listing.specs.Tokens.{IsDayKey};
 ghost use Rattle.ics_series.specs.Versions.{seen, AreChosen};
@@ -27,16 +29,17 @@ ghost use Rattle.ics_listing.specs.declared.window.Window.{Window};
 
 use crate::agenda::Agenda;
 use crate::chosen::chosen;
-use crate::date::{date_at, first_shown, last_shown};
+use crate::date::{bounds_in, date_at, first_shown, last_shown};
 use crate::marks::add_places;
+use crate::near_days::{DAY, last_near, near_day};
 use crate::occurrence_days::is_on;
 use crate::span::{Span, spans};
 use crate::version::Version;
 use ics_file::FileEvents;
-use ics_listing::{DayKey, Feed, Key, Occurrence, Window, last_near, near_day};
+use ics_listing::{DayKey, Feed, Key, Occurrence, Window};
 use ics_starts::Mark;
 use ics_values::{Local, Moment};
-use ics_zone::Display;
+use ics_zone::{Bounds, Display};
 use std::alloc::{AllocError, Global};
 
 /// The occurrences of a folder that meet a window, each under each of its days there, by day and then
@@ -48,6 +51,8 @@ pub struct Days<'a> {
     files: &'a [FileEvents],
     display: &'a Display,
     window: Window,
+    // Two offsets between which the display zone stays in the window.
+    bounds: Bounds,
     // The day and the start in the key after which the listing begins.
     after: Option<(i32, Moment)>,
     // The last day that the display zone can show in the window.
@@ -63,18 +68,21 @@ pub struct Days<'a> {
     ghost chosen: { AreThoseChosen (map said_by files.now) (display_clock display.now) versions.items } by { those-chosen-prop (map said_by files.now)
         (display_clock display.now) versions.items },
     ghost sized: { length spans.items ≡ length versions.items },
-    ghost spanned: { AreSpansAfter (map said_by files.now) (display_clock display.now) window today.day (map seen versions.items)
-        spans.items } by { spans-after-prop (map said_by files.now) (display_clock display.now) window today.day (map seen versions.items) spans.items },
+    ghost bounded: { HasOffsets (display_clock display.now) window bounds } by { offsets-prop (display_clock display.now) window bounds },
+    ghost spanned: { AreSpansAfter (map said_by files.now) (display_clock display.now) bounds window today.day (map seen versions.items)
+        spans.items } by { spans-after-prop (map said_by files.now) (display_clock display.now) bounds window today.day
+            (map seen versions.items) spans.items },
     ghost marked: { AreMarks (map said_by files.now) (map seen versions.items) marks.items } by { marks-prop (map said_by files.now)
         (map seen versions.items) marks.items },
-    ghost not_before: { first_near window ≤ℤ today.day },
-    ghost begun: { begin_day window after ≤ℤ today.day },
-    ghost masters: { ∥ AreDayMasters (scope_in (map said_by files.now) (display_clock display.now) window after) today.day (agenda_sources today.agenda) ∥₁ },
-    ghost before: { IsLookedBefore (scope_in (map said_by files.now) (display_clock display.now) window after) today.day (agenda_sources today.agenda)
-        today.looked },
-    ghost past: { last_near window <ℤ today.day → today.looked ≡ 0 },
-    ghost shown: { (t : ℤ) → t <ℤ window.to → date_at (display_clock display.now) t ≤ℤ last },
-    ghost within: { last ≤ℤ last_near window },
+    ghost not_before: { first_near window bounds ≤ℤ today.day },
+    ghost begun: { day_of_key (first_near window bounds) after ≤ℤ today.day },
+    ghost masters: { ∥ AreDayMasters (scope_in (map said_by files.now) (display_clock display.now) bounds window after) today.day
+        (agenda_sources today.agenda) ∥₁ },
+    ghost before: { IsLookedBefore (scope_in (map said_by files.now) (display_clock display.now) bounds window after) today.day
+        (agenda_sources today.agenda) today.looked },
+    ghost past: { last_near window bounds <ℤ today.day → today.looked ≡ 0 },
+    ghost shown: { (t : ℤ) → window.from ≤ℤ t → t <ℤ window.to → date_at (display_clock display.now) t ≤ℤ last },
+    ghost within: { last ≤ℤ last_near window bounds },
     ghost below: { floor.start ≡ window.from -ℤ pos 1 },
 }
 
@@ -102,8 +110,9 @@ impl<'a> Days<'a> {
         ensures listing { IfOk result (λ days. (list : List OnDay)
             × IsListing on_day_cmp (IsOnDay (map said_by files.entry.now) (display_clock display.entry.now) window) list
             × IsAhead days (after_day_key (option_map (λ key. day_key_rank key.now) after.entry) list)
-            × (scope_of days ≡ scope_by (map said_by files.entry.now) (display_clock display.entry.now) window
-            (option_map (λ key. day_key_rank key.now) after.entry))) }
+            × (scope_of days ≡ scope_by (map said_by files.entry.now) (display_clock display.entry.now)
+            (scope_of days).bounds window (option_map (λ key. day_key_rank key.now) after.entry))) }
+        ensures bounds { IfOk result (λ days. HasOffsets (display_clock display.entry.now) window (scope_of days).bounds) }
         ensures masters { IfOk result (λ days. (masters : List Placed) × AreMasters (scope_of days) masters) }
         ensures keys { IfOk result (λ _. (p : OnDay)
             → IsOnDay (map said_by files.entry.now) (display_clock display.entry.now) window p → IsDayKey (day_rank_of p)) }
@@ -112,17 +121,19 @@ impl<'a> Days<'a> {
         let mut spans = spans(alloc, files, display, &versions, &window)?;
         let mut marks = Vec::new(alloc);
         add_places(&mut marks, versions.len())?;
-        let last = last_shown(display, &window);
+        let bounds = bounds_in(display, &window);
+        let last = last_shown(display, bounds, &window);
         let floor = key_below(alloc, &window);
-        let (day, key) = begin(display, &window, after, &floor);
+        let (day, key) = begin(display, bounds, &window, after, &floor);
         let agenda = Days::agenda_of(
-            alloc, files, display, &versions, &mut spans, &mut marks, &window, day, key,
+            alloc, files, display, &versions, &mut spans, &mut marks, &window, bounds, day, key,
         )?;
         Ok(Days {
             alloc,
             files,
             display,
             window,
+            bounds,
             after: day_and_start(after),
             last,
             floor,
@@ -146,25 +157,27 @@ impl<'a> Days<'a> {
         spans: &mut Vec<Span>,
         marks: &mut Vec<Option<Mark>>,
         window: &Window,
+        bounds: Bounds,
         day: i32,
         key: Option<&Key>,
     ) -> Result<Agenda<'a>, AllocError>
         requires chosen { AreChosen (map said_by files.now) (display_clock display.now) versions.now }
         requires spans { spans.old.items ≡ map (span_at (map said_by files.now) (display_clock display.now) window.now) (map seen versions.now) }
         requires marks { AreMarks (map said_by files.now) (map seen versions.now) marks.old.items }
-        requires first { first_near window.now ≤ℤ day }
+        requires bounded { HasOffsets (display_clock display.now) window.now bounds }
+        requires first { first_near window.now bounds ≤ℤ day }
         ensures size { length spans.new.items ≡ length spans.old.items }
-        ensures spans { AreSpansAfter (map said_by files.entry.now) (display_clock display.entry.now) window.now day (map seen versions.entry.now)
-            spans.new.items }
+        ensures spans { AreSpansAfter (map said_by files.entry.now) (display_clock display.entry.now) bounds window.now day
+            (map seen versions.entry.now) spans.new.items }
         ensures marks { AreMarks (map said_by files.entry.now) (map seen versions.entry.now) marks.new.items }
-        ensures agenda { IfOk result (λ agenda. IsNearAgenda (map said_by files.entry.now) (display_clock display.entry.now) window.now day
+        ensures agenda { IfOk result (λ agenda. IsNearAgenda (map said_by files.entry.now) (display_clock display.entry.now) (IsNearDay window.now bounds day)
             (option_map (λ key. key_rank key.now) key.entry) (agenda_coming agenda) (agenda_sources agenda)
-            ⊎ IsPastAgenda window.now day (agenda_coming agenda) (agenda_sources agenda)) }
+            ⊎ IsPastAgenda (last_near window.now bounds) day (agenda_coming agenda) (agenda_sources agenda)) }
     {
-        if last_near(window) < day {
+        if last_near(window, bounds) < day {
             return Agenda::ended(alloc);
         }
-        let near = near_day(window, day);
+        let near = near_day(window, bounds, day);
         Agenda::of(
             alloc, files, display, versions, spans, marks, near, key, None,
         )
@@ -276,8 +289,14 @@ impl<'a> Days<'a> {
         ensures looked { self.new.today.looked ≡ self.old.today.looked }
         ensures ahead { (list : List OnDay) → IsAhead self.old list → IsAhead self.new list }
     {
-        let day = next_day(&self.spans, &self.window, self.last, self.today.day);
-        let near = near_day(&self.window, day);
+        let day = next_day(
+            &self.spans,
+            &self.window,
+            self.bounds,
+            self.last,
+            self.today.day,
+        );
+        let near = near_day(&self.window, self.bounds, day);
         let key = key_near(self.display, &self.window, day, &self.floor);
         let agenda = Agenda::of(
             self.alloc,
@@ -300,18 +319,20 @@ impl<'a> Days<'a> {
 }
 
 /// The next day near which something can be, or the last.
-fn next_day(spans: &[Span], window: &Window, last: i32, day: i32) -> i32
-    requires low { first_near window.now ≤ℤ day }
-    requires last { last ≤ℤ last_near window.now }
+fn next_day(spans: &[Span], window: &Window, bounds: Bounds, last: i32, day: i32) -> i32
+    requires offsets { AreOffsets bounds }
+    requires low { first_near window.now bounds ≤ℤ day }
+    requires last { last ≤ℤ last_near window.now bounds }
     requires more { day <ℤ last }
     ensures later { day <ℤ result }
     ensures last { result ≤ℤ last }
-    ensures none { (x : ℤ) → day <ℤ x → x <ℤ result → (s : Span) → IsIn s spans.now → (n : Window) → IsNearDay window.now x n → can_meet s n ≡ false }
+    ensures none { (x : ℤ) → day <ℤ x → x <ℤ result → (s : Span) → IsIn s spans.now → (n : Window) → IsNearDay window.now bounds x n
+        → can_meet s n ≡ false }
 {
     let next = day + 1;
-    let from = i64::from(next - 2) * 86_400;
+    let from = i64::from(next) * DAY - bounds.most;
     let first = first_after(spans, window.to, from).max(window.from);
-    let reached = Local::of_seconds(first).day - 2;
+    let reached = Local::of_seconds(first + bounds.least).day;
     reached.max(next).min(last)
 }
 
@@ -341,17 +362,20 @@ fn sooner(first: Moment, span: &Span, from: Moment) -> Moment
 /// The day with which a listing begins, and the key after which it does there.
 fn begin<'k>(
     display: &Display,
+    bounds: Bounds,
     window: &Window,
     after: Option<&'k DayKey>,
     floor: &'k Key,
 ) -> (i32, Option<&'k Key>)
-    requires { floor.now.start ≡ window.now.from -ℤ pos 1 }
+    requires floor { floor.now.start ≡ window.now.from -ℤ pos 1 }
+    requires bounded { HasOffsets (display_clock display.now) window.now bounds }
+    ensures near { first_near window.now bounds ≤ℤ result.0 }
     ensures begins { Begins (display_clock display.now) window.now (option_map (λ key. day_key_rank key.now) after.entry) result.0
         (option_map (λ key. key_rank key.now) result.1) }
     ensures behind { IsBehindKey (option_map (λ key. day_key_rank key.now) after.entry) result.0
         (option_map (λ key. key_rank key.now) result.1) }
 {
-    let first = first_shown(display, window);
+    let first = first_shown(display, bounds, window);
     match after {
         Some(after) if first <= after.day => (after.day, Some(&after.key)),
         _ => (first, key_near(display, window, first, floor)),

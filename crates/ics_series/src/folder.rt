@@ -5,6 +5,7 @@ ghost use Rattle.ics_file.specs.File.{said_by};
 ghost use Rattle.ics_listing.specs.After.{after_key};
 ghost use Rattle.ics_series.specs.Ahead.{scope_of, IsAhead};
 ghost use Rattle.ics_starts.specs.Clocks.{display_clock};
+ghost use Rattle.ics_series.specs.NearDays.{HasOffsets};
 ghost use Rattle.ics_listing.specs.DayKeys.{day_key_rank, day_rank_of, after_day_key, on_day_cmp, OnDay};
 ghost use Rattle.ics_series.specs.OnDays.{IsOnDay};
 ghost use Rattle.ics_series.specs.DaySteps.{scope_by, AreMasters};
@@ -97,8 +98,9 @@ impl Folder {
         ensures listing { IfOk result (λ days. (list : List OnDay)
             × IsListing on_day_cmp (IsOnDay (map said_by self.entry.now.files) (display_clock self.entry.now.display) window) list
             × IsAhead days (after_day_key (option_map (λ key. day_key_rank key.now) after.entry) list)
-            × (scope_of days ≡ scope_by (map said_by self.entry.now.files) (display_clock self.entry.now.display) window
-            (option_map (λ key. day_key_rank key.now) after.entry))) }
+            × (scope_of days ≡ scope_by (map said_by self.entry.now.files) (display_clock self.entry.now.display)
+            (scope_of days).bounds window (option_map (λ key. day_key_rank key.now) after.entry))) }
+        ensures bounds { IfOk result (λ days. HasOffsets (display_clock self.entry.now.display) window (scope_of days).bounds) }
         ensures masters { IfOk result (λ days. (masters : List Placed) × AreMasters (scope_of days) masters) }
         ensures keys { IfOk result (λ _. (p : OnDay)
             → IsOnDay (map said_by self.entry.now.files) (display_clock self.entry.now.display) window p → IsDayKey (day_rank_of p)) }

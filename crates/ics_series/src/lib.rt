@@ -10,6 +10,7 @@ mod folder;
 mod laws;
 mod marks;
 mod masters;
+mod near_days;
 mod occurrence_days;
 mod part;
 mod prepare;

@@ -13,6 +13,8 @@ use Rattle.ics_listing.specs.Listing.{IsListing}
 use Rattle.ics_series.specs.Inner.Spans.{floor_of, AreSpansAfter, NoneMeets}
 use Rattle.ics_series.specs.PlacedEvents.{Placed, clocks_at}
 use Rattle.ics_series.specs.Versions.{by_subject, label_of, seen, Label}
+use Rattle.ics_series.specs.NearDays.{HasOffsets}
+use Rattle.ics_zone.specs.declared.bounds.Bounds.{Bounds}
 
 -- the versions are those of the events that count, in the order of their subjects
 abbrev pub AreThoseChosen : List FileSaid → Clock → List Version → Type 0
@@ -25,11 +27,15 @@ labels-set a b = hlevel (props, codes)
 pub those-chosen-prop : (files : List FileSaid) (display : Clock) (versions : List Version) → IsProp (AreThoseChosen files display versions)
 those-chosen-prop files display versions = Π_prop λ chosen. Π_prop λ l. labels-set _ _
 
+-- nor has more what it knows of the clock
+pub offsets-prop : (clock : Clock) (w : Window) (b : Bounds) → IsProp (HasOffsets clock w b)
+offsets-prop clock w b = hlevel props
+
 none-meets-prop : (clocks : Clocks) (event : Event) (w : Window) (floor : Option ℤ) → IsProp (NoneMeets clocks event w floor)
 none-meets-prop clocks event w floor = hlevel props
 
-pub spans-after-prop : (files : List FileSaid) (display : Clock) (w : Window) (day : ℤ) (labels : List Label) (spans : List Span)
-    → IsProp (AreSpansAfter files display w day labels spans)
-spans-after-prop files display w day labels spans =
+pub spans-after-prop : (files : List FileSaid) (display : Clock) (b : Bounds) (w : Window) (day : ℤ) (labels : List Label) (spans : List Span)
+    → IsProp (AreSpansAfter files display b w day labels spans)
+spans-after-prop files display b w day labels spans =
     Π_prop λ x. Π_prop λ n. Π_prop λ later. Π_prop λ near. Π_prop λ k. Π_prop λ s. Π_prop λ l. Π_prop λ event. Π_prop λ at. Π_prop λ there. Π_prop λ stands.
     Π_prop λ out. none-meets-prop (clocks_at files display l.spot.file) event n (floor_of w)

@@ -17,11 +17,12 @@ use Rattle.ics_starts.specs.Quiet.{IsQuietTo}
 use Rattle.ics_listing.specs.WindowMeeting.{is_met}
 use Rattle.ics_starts.specs.MeetsWindow.{Meets}
 use Rattle.ics_starts.specs.Instances.{IsOf}
-use Rattle.ics_listing.specs.DayKeys.{IsNearDay}
+use Rattle.ics_series.specs.NearDays.{IsNearDay}
 use Rattle.ics_series.specs.PlacedEvents.{clocks_at}
 use Rattle.ics_starts.specs.SingleEvents.{entry_first, is_single}
 use Rattle.ics_series.specs.Spots.{event_at}
 use Rattle.ics_series.specs.Versions.{Label}
+use Rattle.ics_zone.specs.declared.bounds.Bounds.{Bounds}
 
 -- every instant of an i64
 abbrev pub always : Span
@@ -89,8 +90,9 @@ pub record AreMovedOn (files : List FileSaid) (display : Clock) (w : Window) (fl
   pub still : (n : Window) → IsLater w n → AreSpans files display n floor labels old → AreSpans files display n floor labels new
 
 -- they are so for what is listed of what a window holds near each day after one
-abbrev pub AreSpansAfter : List FileSaid → Clock → Window → ℤ → List Label → List Span → Type 0
-AreSpansAfter files display w day labels spans = (x : ℤ) (n : Window) → day <ℤ x → IsNearDay w x n → AreSpans files display n (floor_of w) labels spans
+abbrev pub AreSpansAfter : List FileSaid → Clock → Bounds → Window → ℤ → List Label → List Span → Type 0
+AreSpansAfter files display b w day labels spans =
+    (x : ℤ) (n : Window) → day <ℤ x → IsNearDay w b x n → AreSpans files display n (floor_of w) labels spans
 
 -- what is known of the occurrences from a window's end on, if none meets it
 pub record IsRest (clocks : Clocks) (event : Event) (w : Window) (since : ℤ) (s : Span) : Type 0 where

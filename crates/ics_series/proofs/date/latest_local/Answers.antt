@@ -1,88 +1,112 @@
 use Rattle.std.proofs.Common.{rules, ◌≡◌, ◌-ℤ◌, ◌+ℤ◌, pos, sym, ◌∙◌, arith, to_z, of_z, w64}
 use Rattle.std.proofs.lemmas.Int.{ints, to_z-of_z}
 use Rattle.ics_zone.specs.Inner.Near.{offset_near}
-use Rattle.ics_zone.specs.Seconds.{IsNear}
 use Rattle.ics_listing.proofs.Cases.{moment-back}
 use Rattle.ics_starts.specs.Clocks.{display_clock}
-use Rattle.ics_series.proofs.ShownLemmas.{apart-fits, begin-fits, last-short, is-shown, moment-shown, shown-to}
+use Rattle.ics_series.proofs.ShownLemmas.{apart-fits, begin-fits, last-high, last-instant, last-short, is-shown, last-moment, shown-to}
 use Rattle.ics_series.proofs.date.latest_local.Goals as goal
+
+pub stretch-stretch-requires : goal.stretch-stretch-requires
+stretch-stretch-requires c =
+    let shows = c.seconds-local.ensures ∙ (rw (last-instant c.args.window.now).0 at c.local.ensures) in
+    let moment = last-moment c.args.window.now shows (offset_near c.args.display.now (c.args.window.now.to -ℤ pos 1)) in
+    rw (moment-back c.seconds-local.result c.seconds-local.type_inv) moment
 
 pub is_meant-requires-clause-local : goal.is_meant-requires-clause-local
 is_meant-requires-clause-local c =
-    let shows = c.seconds-local.ensures ∙ (rw (to_z-of_z w64 c.args.last c.ranges.last) at c.local.ensures) in
-    let moment = moment-shown shows (offset_near c.args.display.now c.args.last) c.requires.early c.requires.late in
+    let shows = c.seconds-local.ensures ∙ (rw ((last-instant c.args.window.now).0) at c.local.ensures) in
+    let moment = last-moment c.args.window.now shows (offset_near c.args.display.now (c.args.window.now.to -ℤ pos 1)) in
     rw (moment-back c.seconds-local.result c.seconds-local.type_inv) moment
 
 pub returns-clause-shown : goal.returns-clause-shown
-returns-clause-shown c = λ t within.
-    let b = c.bounds-most.ensures in
-    let bound = (b.offsets t).1 in
-    omega (arith, ints, bound, within, b.least_short, b.most_short, c.requires.early, c.requires.late)
+returns-clause-shown c = λ t low high.
+    let w = c.args.window.now in
+    let b = c.requires in
+    let bound = (b.offsets t low high).1 in
+    omega (arith, ints, bound, high, b.most_short, w.ordered, w.not_early, w.not_late)
 
 pub overflow_sub-begin : goal.overflow_sub-begin
 overflow_sub-begin c =
-    let b = c.bounds-most.ensures in
-    let shows = c.seconds-local.ensures ∙ (rw (to_z-of_z w64 c.args.last c.ranges.last) at c.local.ensures) in
-    let moment = moment-shown shows (offset_near c.args.display.now c.args.last) c.requires.early c.requires.late in
+    let b = c.requires in
+    let shows = c.seconds-local.ensures ∙ (rw ((last-instant c.args.window.now).0) at c.local.ensures) in
+    let moment = last-moment c.args.window.now shows (offset_near c.args.display.now (c.args.window.now.to -ℤ pos 1)) in
     let local = moment-back c.seconds-local.result c.seconds-local.type_inv in
-    let last = to_z-of_z w64 c.args.last c.ranges.last in
+    let last = (last-instant c.args.window.now).0 in
     let shown = is-shown (display_clock c.args.display.now) c.stretch-stretch.result c.stretch-stretch.ensures shows
     (rw (local, last) at (sym c.is_meant.ensures ∙ c.if-is_meant.true)) in
     let edge : to_z w64 (of_z w64 c.stretch-stretch.result.from) ≡ c.stretch-stretch.result.from = search rules in
     let apart = to_z-of_z w64 (c.seconds-local.result -ℤ pos 259_200) (apart-fits c.seconds-local.result moment).1 in
     let begin = rw (local, edge, apart) at c.max-begin.ensures.value in
-    let short : IsNear c.bounds-most.result.most = (omega (arith, ints, b.most_short), omega (arith, ints, b.most_short)) in
-    let fits = begin-fits shown begin c.bounds-most.result.most moment short in
+    let short = b.most_short in
+    let fits = begin-fits shown begin c.args.bounds.most moment short in
     let back = moment-back c.max-begin.result c.max-begin.type_inv in
     let offset : to_z w64 (of_z w64 c.stretch-stretch.result.offset) ≡ c.stretch-stretch.result.offset = search rules in
-    let most : to_z w64 (of_z w64 c.bounds-most.result.most) ≡ c.bounds-most.result.most = search rules in
-    let less = to_z-of_z w64 (c.stretch-stretch.result.offset -ℤ c.bounds-most.result.most) fits.0 in
-    let more = to_z-of_z w64 ((c.stretch-stretch.result.offset -ℤ c.bounds-most.result.most) +ℤ pos 1) fits.1.0 in
-    rw (back, offset, most, less, more) fits.1.1
+    rw back fits.0
 
-pub returns-then-is_meant-clause-shown : goal.returns-then-is_meant-clause-shown
-returns-then-is_meant-clause-shown c = λ t within.
-    let b = c.bounds-most.ensures in
-    let shows = c.seconds-local.ensures ∙ (rw (to_z-of_z w64 c.args.last c.ranges.last) at c.local.ensures) in
-    let moment = moment-shown shows (offset_near c.args.display.now c.args.last) c.requires.early c.requires.late in
+pub overflow_sub-begin-then-is_meant : goal.overflow_sub-begin-then-is_meant
+overflow_sub-begin-then-is_meant c =
+    let b = c.requires in
+    let shows = c.seconds-local.ensures ∙ (rw ((last-instant c.args.window.now).0) at c.local.ensures) in
+    let moment = last-moment c.args.window.now shows (offset_near c.args.display.now (c.args.window.now.to -ℤ pos 1)) in
     let local = moment-back c.seconds-local.result c.seconds-local.type_inv in
-    let last = to_z-of_z w64 c.args.last c.ranges.last in
+    let last = (last-instant c.args.window.now).0 in
     let shown = is-shown (display_clock c.args.display.now) c.stretch-stretch.result c.stretch-stretch.ensures shows
     (rw (local, last) at (sym c.is_meant.ensures ∙ c.if-is_meant.true)) in
     let edge : to_z w64 (of_z w64 c.stretch-stretch.result.from) ≡ c.stretch-stretch.result.from = search rules in
     let apart = to_z-of_z w64 (c.seconds-local.result -ℤ pos 259_200) (apart-fits c.seconds-local.result moment).1 in
     let begin = rw (local, edge, apart) at c.max-begin.ensures.value in
-    let short : IsNear c.bounds-most.result.most = (omega (arith, ints, b.most_short), omega (arith, ints, b.most_short)) in
-    let fits = begin-fits shown begin c.bounds-most.result.most moment short in
+    let short = b.most_short in
+    let fits = begin-fits shown begin c.args.bounds.most moment short in
     let back = moment-back c.max-begin.result c.max-begin.type_inv in
     let offset : to_z w64 (of_z w64 c.stretch-stretch.result.offset) ≡ c.stretch-stretch.result.offset = search rules in
-    let most : to_z w64 (of_z w64 c.bounds-most.result.most) ≡ c.bounds-most.result.most = search rules in
-    let less = to_z-of_z w64 (c.stretch-stretch.result.offset -ℤ c.bounds-most.result.most) fits.0 in
-    let more = to_z-of_z w64 ((c.stretch-stretch.result.offset -ℤ c.bounds-most.result.most) +ℤ pos 1) fits.1.0 in
-    let begin-less = to_z-of_z w64 (c.max-begin.result -ℤ ((c.stretch-stretch.result.offset -ℤ c.bounds-most.result.most) +ℤ pos 1)) fits.1.1 in
-    let value = rw (local, back, offset, most, less, more, begin-less) at c.max.ensures.value in
-    rw (moment-back c.max.result c.max.type_inv) (shown-to shown begin value t (b.offsets t).1 within)
+    rw (back, to_z-of_z w64 (c.max-begin.result -ℤ pos 1) fits.0, offset) fits.1.0
 
-pub returns-then-is_meant-clause-near : goal.returns-then-is_meant-clause-near
-returns-then-is_meant-clause-near c =
-    let b = c.bounds-most.ensures in
-    let here = b.offsets c.args.last in
-    let shows = c.seconds-local.ensures ∙ (rw (to_z-of_z w64 c.args.last c.ranges.last) at c.local.ensures) in
-    let moment = moment-shown shows (offset_near c.args.display.now c.args.last) c.requires.early c.requires.late in
+pub overflow_add-begin : goal.overflow_add-begin
+overflow_add-begin c =
+    let b = c.requires in
+    let shows = c.seconds-local.ensures ∙ (rw ((last-instant c.args.window.now).0) at c.local.ensures) in
+    let moment = last-moment c.args.window.now shows (offset_near c.args.display.now (c.args.window.now.to -ℤ pos 1)) in
     let local = moment-back c.seconds-local.result c.seconds-local.type_inv in
-    let last = to_z-of_z w64 c.args.last c.ranges.last in
+    let last = (last-instant c.args.window.now).0 in
     let shown = is-shown (display_clock c.args.display.now) c.stretch-stretch.result c.stretch-stretch.ensures shows
     (rw (local, last) at (sym c.is_meant.ensures ∙ c.if-is_meant.true)) in
     let edge : to_z w64 (of_z w64 c.stretch-stretch.result.from) ≡ c.stretch-stretch.result.from = search rules in
     let apart = to_z-of_z w64 (c.seconds-local.result -ℤ pos 259_200) (apart-fits c.seconds-local.result moment).1 in
     let begin = rw (local, edge, apart) at c.max-begin.ensures.value in
-    let short : IsNear c.bounds-most.result.most = (omega (arith, ints, b.most_short), omega (arith, ints, b.most_short)) in
-    let fits = begin-fits shown begin c.bounds-most.result.most moment short in
+    let short = b.most_short in
+    let fits = begin-fits shown begin c.args.bounds.most moment short in
     let back = moment-back c.max-begin.result c.max-begin.type_inv in
     let offset : to_z w64 (of_z w64 c.stretch-stretch.result.offset) ≡ c.stretch-stretch.result.offset = search rules in
-    let most : to_z w64 (of_z w64 c.bounds-most.result.most) ≡ c.bounds-most.result.most = search rules in
-    let less = to_z-of_z w64 (c.stretch-stretch.result.offset -ℤ c.bounds-most.result.most) fits.0 in
-    let more = to_z-of_z w64 ((c.stretch-stretch.result.offset -ℤ c.bounds-most.result.most) +ℤ pos 1) fits.1.0 in
-    let begin-less = to_z-of_z w64 (c.max-begin.result -ℤ ((c.stretch-stretch.result.offset -ℤ c.bounds-most.result.most) +ℤ pos 1)) fits.1.1 in
-    let value = rw (local, back, offset, most, less, more, begin-less) at c.max.ensures.value in
-    rw (moment-back c.max.result c.max.type_inv) (last-short shown begin value short here.1 (offset_near c.args.display.now c.args.last))
+    let most : to_z w64 (of_z w64 c.args.bounds.most) ≡ c.args.bounds.most = search rules in
+    let before = to_z-of_z w64 (c.max-begin.result -ℤ pos 1) fits.0 in
+    let moved = to_z-of_z w64 ((c.max-begin.result -ℤ pos 1) -ℤ c.stretch-stretch.result.offset) fits.1.0 in
+    rw (back, before, offset, moved, most) fits.1.1
+
+pub returns-then-is_meant : goal.returns-then-is_meant
+returns-then-is_meant c =
+    let b = c.requires in
+    let w = c.args.window.now in
+    let here = b.offsets (c.args.window.now.to -ℤ pos 1) (omega (arith, ints, w.ordered)) (omega (arith, ints)) in
+    let shows = c.seconds-local.ensures ∙ (rw ((last-instant c.args.window.now).0) at c.local.ensures) in
+    let moment = last-moment c.args.window.now shows (offset_near c.args.display.now (c.args.window.now.to -ℤ pos 1)) in
+    let local = moment-back c.seconds-local.result c.seconds-local.type_inv in
+    let last = (last-instant c.args.window.now).0 in
+    let shown = is-shown (display_clock c.args.display.now) c.stretch-stretch.result c.stretch-stretch.ensures shows
+    (rw (local, last) at (sym c.is_meant.ensures ∙ c.if-is_meant.true)) in
+    let edge : to_z w64 (of_z w64 c.stretch-stretch.result.from) ≡ c.stretch-stretch.result.from = search rules in
+    let apart = to_z-of_z w64 (c.seconds-local.result -ℤ pos 259_200) (apart-fits c.seconds-local.result moment).1 in
+    let begin = rw (local, edge, apart) at c.max-begin.ensures.value in
+    let short = b.most_short in
+    let fits = begin-fits shown begin c.args.bounds.most moment short in
+    let back = moment-back c.max-begin.result c.max-begin.type_inv in
+    let offset : to_z w64 (of_z w64 c.stretch-stretch.result.offset) ≡ c.stretch-stretch.result.offset = search rules in
+    let most : to_z w64 (of_z w64 c.args.bounds.most) ≡ c.args.bounds.most = search rules in
+    let before = to_z-of_z w64 (c.max-begin.result -ℤ pos 1) fits.0 in
+    let moved = to_z-of_z w64 ((c.max-begin.result -ℤ pos 1) -ℤ c.stretch-stretch.result.offset) fits.1.0 in
+    let latest = to_z-of_z w64 (((c.max-begin.result -ℤ pos 1) -ℤ c.stretch-stretch.result.offset) +ℤ c.args.bounds.most) fits.1.1 in
+    let value = rw (local, back, before, offset, moved, most, latest) at c.max.ensures.value in
+    rw (moment-back c.max.result c.max.type_inv) (record {
+      shown = λ t low high. shown-to shown begin value t (b.offsets t low high).1 (omega (arith, ints, high));
+      near = last-short shown begin value short here.1 (offset_near c.args.display.now (c.args.window.now.to -ℤ pos 1));
+      high = last-high shown begin value here.1;
+    })

@@ -18,9 +18,8 @@ returns-in_default-clause-begins c =
     let shown = c.first_shown-first.ensures in
     let fits : to_z w32 (of_z w32 c.first_shown-first.result) ≡ c.first_shown-first.result = search rules in
     begins-first (display_clock c.args.display.now) c.args.window.now (to_z w32 (of_z w32 c.first_shown-first.result))
-    (λ t from. subst (λ d. d ≤ℤ date_at (display_clock c.args.display.now) t) (sym fits) (shown.shown t from))
+    (λ t from to. subst (λ d. d ≤ℤ date_at (display_clock c.args.display.now) t) (sym fits) (shown.shown t from to))
     (option_map (λ key. day_key_rank key.now) c.args.after) (option_map (λ key. key_rank key.now) c.key_near.result)
-    (omega (arith, ints, fits, shown.near))
     (λ a e. elim c.in_default.branch [
       | in_default-via-in-Some+else-first-after w ↦
           let is = ap (option_map (λ key. day_key_rank key.now)) w.in-Some.is in

@@ -5,6 +5,7 @@ use Rattle.ics_starts.specs.Clocks.{display_clock}
 use Rattle.ics_series.specs.Versions.{seen}
 use Rattle.ics_listing.proofs.Cases.{if-both}
 use Rattle.ics_series.specs.Inner.Spans.{floor_of}
+use Rattle.ics_series.proofs.NearDayLemmas.{bounds-offsets}
 use Rattle.ics_series.proofs.SpanLemmas.{are-spans, near-later, spans-floor}
 use Rattle.ics_series.proofs.days.Days.agenda_of.Goals as goal
 
@@ -39,3 +40,9 @@ pub returns-then-last_near-day-clause-spans : goal.returns-then-last_near-day-cl
 returns-then-last_near-day-clause-spans c = λ x n later h.
     are-spans (map said_by c.args.files.now) (display_clock c.args.display.now) c.args.window.now n (omega (arith, ints, h.to, int_min_is))
     (floor_of c.args.window.now) (map seen c.args.versions.now) c.requires.spans
+
+pub last_near-requires : goal.last_near-requires
+last_near-requires c = bounds-offsets (display_clock c.args.display.now) c.args.window.now c.args.bounds c.requires.bounded
+
+pub near_day-near-requires-clause-offsets : goal.near_day-near-requires-clause-offsets
+near_day-near-requires-clause-offsets c = bounds-offsets (display_clock c.args.display.now) c.args.window.now c.args.bounds c.requires.bounded

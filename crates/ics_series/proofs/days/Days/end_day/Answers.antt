@@ -17,14 +17,15 @@ invariant_of-self c =
     let self = c.args.self.now in
     let files = map said_by self.files.now in
     let display = display_clock self.display.now in
-    let scope = scope_in files display self.window self.after in
+    let scope = scope_in files display self.bounds self.window self.after in
     let fits : to_z w32 (of_z w32 c.args.self.now.today.day) ≡ c.args.self.now.today.day = search rules in
     let begun = self.begun in
     let more = c.requires.more in
     record {
       chosen = self.chosen;
+      bounded = self.bounded;
       sized = self.sized;
-      spanned = subst (λ d. AreSpansAfter files display self.window d (map seen self.versions.items) self.spans.items) (sym fits) self.spanned;
+      spanned = subst (λ d. AreSpansAfter files display self.bounds self.window d (map seen self.versions.items) self.spans.items) (sym fits) self.spanned;
       marked = self.marked;
       not_before = omega (arith, ints, fits, self.not_before);
       begun = omega (arith, ints, fits, begun);

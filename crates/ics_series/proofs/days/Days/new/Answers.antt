@@ -2,13 +2,13 @@ use Rattle.std.proofs.Common.{rules, ◌≡◌, ◌∙◌, length, map, refl, ap
 use Rattle.std.proofs.lemmas.Int.{ints}
 use Rattle.std.proofs.lemmas.List.{length-map}
 use Rattle.ics_file.specs.File.{said_by}
-use Rattle.ics_zone.specs.Inner.Near.{offset_near}
 use Rattle.ics_series.specs.Ahead.{agenda_coming}
 use Rattle.ics_starts.specs.Clocks.{display_clock}
 use Rattle.ics_series.specs.OnDays.{date_at}
 use Rattle.ics_series.specs.DaySteps.{agenda_sources, scope_in}
 use Rattle.ics_listing.specs.Entry.{key_rank}
-use Rattle.ics_listing.specs.DayKeys.{first_near, day_key_rank}
+use Rattle.ics_listing.specs.DayKeys.{day_key_rank}
+use Rattle.ics_series.specs.NearDays.{first_near}
 use Rattle.ics_series.specs.Versions.{seen}
 use Rattle.ics_series.proofs.AheadLemmas.{begun-ahead, begun-by, day-keys, first-masters, from-start, looked-before}
 use Rattle.ics_series.proofs.MarkLemmas.{marks-none}
@@ -29,18 +29,20 @@ returns c =
     let xs = whole c.args.files.now c.args.display.now c.in_ok-versions.ensures.chosen c.in_ok-versions.ensures.read c.args.window in
     let fits : to_z w32 (of_z w32 c.begin-day.result.0) ≡ c.begin-day.result.0 = search rules in
     let begins = rw (← fits) at c.begin-day.ensures.begins in
-    let begun = begun-ahead files display (offset_near c.args.display.now) c.args.window after (to_z w32 (of_z w32 c.begin-day.result.0)) key begins
-    xs.0 (agenda_coming c.in_ok-agenda.agenda) (agenda_sources c.in_ok-agenda.agenda) xs.1 c.in_ok-agenda.ensures.agenda in
+    let begun = begun-ahead files display c.args.window c.bounds_in-bounds.result c.bounds_in-bounds.ensures after
+    (to_z w32 (of_z w32 c.begin-day.result.0)) key begins xs.0
+    (agenda_coming c.in_ok-agenda.agenda) (agenda_sources c.in_ok-agenda.agenda) xs.1 c.in_ok-agenda.ensures.agenda in
     record {
       listing = (
         begun.0,
         begun.1,
         begun.2,
-        ap (scope_in (map said_by c.args.files.now) (display_clock c.args.display.now) c.args.window) c.day_and_start.ensures,
+        ap (scope_in (map said_by c.args.files.now) (display_clock c.args.display.now) c.bounds_in-bounds.result c.args.window) c.day_and_start.ensures,
       );
+      bounds = c.bounds_in-bounds.ensures;
       masters = masters-listed c.in_ok-versions.ensures.chosen;
       keys =
-          day-keys files display (offset_near c.args.display.now) c.args.window
+          day-keys files display c.args.window c.bounds_in-bounds.result c.bounds_in-bounds.ensures
           (keys c.args.files.now c.args.display.now c.in_ok-versions.ensures.read);
     }
 
@@ -48,27 +50,29 @@ pub invariant_of-result : goal.invariant_of-result
 invariant_of-result c =
     let after = option_map (λ key. day_key_rank key.now) c.args.after in
     let key = option_map (λ key. key_rank key.now) c.begin-day.result.1 in
-    let scope = scope_in (map said_by c.args.files.now) (display_clock c.args.display.now) c.args.window c.day_and_start.result in
+    let scope = scope_in (map said_by c.args.files.now) (display_clock c.args.display.now) c.bounds_in-bounds.result c.args.window c.day_and_start.result in
     let fits : to_z w32 (of_z w32 c.begin-day.result.0) ≡ c.begin-day.result.0 = search rules in
     let last : to_z w32 (of_z w32 c.last_shown-last.result) ≡ c.last_shown-last.result = search rules in
-    let low = c.begin-day.ensures.begins.low in
+    let low = c.begin-day.ensures.near in
     let behind = rw (← fits) at c.begin-day.ensures.behind in
     let spanned = rw c.deref.ensures.value at c.in_ok-spans.ensures in
-    let first : first_near c.args.window ≤ℤ to_z w32 (of_z w32 c.begin-day.result.0) = omega (arith, ints, low, fits) in
+    let first : first_near c.args.window c.bounds_in-bounds.result ≤ℤ to_z w32 (of_z w32 c.begin-day.result.0) = omega (arith, ints, low, fits) in
     let from = rw (← c.day_and_start.ensures) at (from-start after (to_z w32 (of_z w32 c.begin-day.result.0)) key behind) in
     let masters = first-masters scope from c.in_ok-agenda.ensures.agenda in
     record {
       chosen = those-chosen (map said_by c.args.files.now) (display_clock c.args.display.now) c.in_ok-versions.versions.items c.in_ok-versions.ensures.chosen;
+      bounded = c.bounds_in-bounds.ensures;
       sized = c.agenda_of.ensures.size ∙ (ap length spanned ∙ (length-map _ _ ∙ length-map _ _));
       spanned = rw c.deref-2.ensures.value at c.agenda_of.ensures.spans;
       marked = rw c.deref-2.ensures.value at c.agenda_of.ensures.marks;
       not_before = first;
-      begun = rw c.day_and_start.ensures (begun-by c.args.window after (to_z w32 (of_z w32 c.begin-day.result.0)) key behind first);
+      begun = rw c.day_and_start.ensures
+          (begun-by (first_near c.args.window c.bounds_in-bounds.result) after (to_z w32 (of_z w32 c.begin-day.result.0)) key behind first);
       masters = ∣ masters ∣₁;
       before = looked-before scope (to_z w32 (of_z w32 c.begin-day.result.0)) (agenda_sources c.in_ok-agenda.agenda) masters
           c.in_ok-agenda.agenda.apart.1.1 (λ all-masters most n all bounds is. omega arith);
       past = λ l. refl;
-      shown = λ t to. subst (λ d. date_at (display_clock c.args.display.now) t ≤ℤ d) (sym last) (c.last_shown-last.ensures.shown t to);
+      shown = λ t from to. subst (λ d. date_at (display_clock c.args.display.now) t ≤ℤ d) (sym last) (c.last_shown-last.ensures.shown t from to);
       within = omega (arith, ints, last, c.last_shown-last.ensures.near);
       below = c.key_below-floor.ensures;
     }

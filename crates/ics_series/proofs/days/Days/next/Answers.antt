@@ -1,7 +1,6 @@
 use Rattle.std.proofs.Common.{unsigned_abs, ◌-ℤ◌, rules, ◌≡◌, ◌<◌, ◌∷◌, ℤ, map, None, sym, ◌∙◌, ap, subst, arith, to_z, of_z, w32, ◌≤ℤ◌, ◌<ℤ◌}
 use Rattle.std.proofs.lemmas.Int.{ints}
 use Rattle.ics_file.specs.File.{said_by}
-use Rattle.ics_zone.specs.Inner.Near.{offset_near}
 use Rattle.ics_series.specs.Ahead.{agenda_coming, IsAhead}
 use Rattle.ics_starts.specs.Clocks.{display_clock}
 use Rattle.ics_listing.specs.Entry.{entry_of}
@@ -33,8 +32,8 @@ returns-then-self-clause-ok c = λ list a.
     let none : c.in_ok-occurrence.field-0 ≡ None = search rules in
     let gives = rw none at (c.in_ok-occurrence.ensures.ok list (c.loop-occurrence.invariant.ahead list a)) in
     let past : c.next_today.new.self.last ≤ℤ c.next_today.new.self.today.day = search (arith, rules) in
-    let ended = ahead-ended (map said_by new.files.now) (display_clock new.display.now) (offset_near new.display.now) new.window new.today.day
-    (none-past-last (map said_by new.files.now) (display_clock new.display.now) (offset_near new.display.now) new.window new.shown past)
+    let ended = ahead-ended (map said_by new.files.now) (display_clock new.display.now) new.window new.bounds new.bounded new.today.day
+    (none-past-last (map said_by new.files.now) (display_clock new.display.now) new.window new.bounds new.bounded new.shown past)
     (agenda_coming new.today.agenda) (c.in_ok-occurrence.ensures.none none) gives.0 gives.1 in
     (gives.0, (gives.2 ∙ ended, ended), gives.1)
 

@@ -44,5 +44,5 @@ returns-then-met-on-clause-within c =
 pub invariant_of-self-clause-before : goal.invariant_of-self-clause-before
 invariant_of-self-clause-before c =
     let self = c.loop-occurrence.self in
-    let scope = scope_in (map said_by self.files.now) (display_clock self.display.now) self.window self.after in
+    let scope = scope_in (map said_by self.files.now) (display_clock self.display.now) self.bounds self.window self.after in
     subst (λ (sources : List Source). IsLookedBefore scope self.today.day sources self.today.looked) (sym c.next.ensures.sources) self.before

@@ -5,10 +5,11 @@ use Rattle.std.proofs.Math.Bridge.{le_prop}
 use Rattle.std.proofs.Math.Logic.{∥∥₁_elim}
 use Rattle.std.proofs.lemmas.Int.{ints}
 use Rattle.ics_file.specs.File.{said_by}
-use Rattle.ics_zone.specs.Inner.Near.{offset_near}
 use Rattle.ics_series.specs.Ahead.{agenda_coming}
 use Rattle.ics_starts.specs.Clocks.{display_clock}
 use Rattle.ics_series.specs.DaySteps.{agenda_sources, scope_in}
+use Rattle.ics_series.specs.NearDays.{first_near}
+use Rattle.ics_series.proofs.NearDayLemmas.{bounds-offsets}
 use Rattle.ics_series.specs.Sources.{recurring}
 use Rattle.ics_series.proofs.AheadLemmas.{ahead-turned, from-later, looked-before, looked-next, searched-masters}
 use Rattle.ics_series.proofs.SpanLemmas.{after-next, after-same, chosen-back, none-between}
@@ -19,9 +20,15 @@ near_day-near-requires c =
     let self = c.args.self.now in
     let next = c.next_day-day in
     record {
+      offsets = bounds-offsets (display_clock self.display.now) self.window self.bounds self.bounded;
       first = omega (arith, ints, next.type_inv, next.ensures.later, self.not_before);
       last = omega (arith, ints, next.type_inv, next.ensures.last, self.within);
     }
+
+pub next_day-day-requires-clause-offsets : goal.next_day-day-requires-clause-offsets
+next_day-day-requires-clause-offsets c =
+    let self = c.args.self.now in
+    bounds-offsets (display_clock self.display.now) self.window self.bounds self.bounded
 
 pub of-requires-clause-chosen : goal.of-requires-clause-chosen
 of-requires-clause-chosen c =
@@ -50,8 +57,9 @@ invariant_of-self c =
     let none = rw (fits, ← same, c.deref.ensures.value) at c.next_day-day.ensures.none in
     record {
       chosen = self.chosen;
+      bounded = self.bounded;
       sized = moved.size ∙ self.sized;
-      spanned = after-same files display self.window self.versions.items self.sized self.spanned c.near_day-near.ensures moved
+      spanned = after-same files display self.bounds self.window self.versions.items self.sized self.spanned c.near_day-near.ensures moved
           (chosen-back files display self.versions.items self.chosen) none;
       marked = rw c.deref-2.ensures.value at c.of.ensures.marks;
       not_before = self.not_before;
@@ -70,18 +78,19 @@ invariant_of-self-2 c =
     let next = c.next_day-day in
     let day : to_z w32 (of_z w32 c.next_day-day.result) ≡ c.next_day-day.result = omega (arith, ints, next.type_inv) in
     let more = c.requires.more in
-    let scope = scope_in (map said_by self.files.now) (display_clock self.display.now) self.window self.after in
+    let scope = scope_in (map said_by self.files.now) (display_clock self.display.now) self.bounds self.window self.after in
     let begun = self.begun in
     let files = map said_by self.files.now in
     let display = display_clock self.display.now in
     let moved = rw (c.deref-2.ensures.value, c.floor_of.ensures) at c.of.ensures.spans in
     let masters = searched-masters scope (option_map (λ key. key_rank key.now) c.key_near-key.result) c.near_day-near.ensures
-    (λ since f. from-later self.window self.after self.begun (omega (arith, ints, day, next.ensures.later)) since)
+    (λ since f. from-later (first_near self.window self.bounds) self.after self.begun (omega (arith, ints, day, next.ensures.later)) since)
     (recurring (agenda_sources c.in_ok-agenda.agenda)) c.in_ok-agenda.ensures.sources.each in
     record {
       chosen = self.chosen;
+      bounded = self.bounded;
       sized = moved.size ∙ self.sized;
-      spanned = after-next files display self.window self.versions.items self.sized self.spanned c.near_day-near.ensures moved
+      spanned = after-next files display self.bounds self.window self.versions.items self.sized self.spanned c.near_day-near.ensures moved
           (omega (arith, ints, day, next.ensures.later));
       marked = rw c.deref-2.ensures.value at c.of.ensures.marks;
       not_before = omega (arith, ints, day, next.ensures.later, self.not_before);
@@ -114,10 +123,9 @@ returns-clause-ahead c = λ list a.
     let same : to_z w32 (of_z w32 c.next_day-day.result) ≡ c.next_day-day.result = omega (arith, ints, next.type_inv) in
     let fits : to_z w32 (of_z w32 c.args.self.now.today.day) ≡ c.args.self.now.today.day = search rules in
     let none = rw (fits, ← same, c.deref.ensures.value) at c.next_day-day.ensures.none in
-    let near = offset_near self.display.now in
     let chosen = chosen-back files display self.versions.items self.chosen in
     let key = option_map (λ key. key_rank key.now) c.key_near-key.result in
-    ahead-turned files display near self.window key
+    ahead-turned files display self.window self.bounds self.bounded key
     (λ p u. c.key_near-key.ensures.shown p.entry u.0.listed.1 (subst (λ d. is_on display self.window p.entry d ≡ true) u.1 u.0.on)) later
-    (none-between files display near self.window self.versions.items chosen self.spans.items self.sized self.spanned none)
+    (none-between files display self.window self.bounds self.bounded self.versions.items chosen self.spans.items self.sized self.spanned none)
     c.near_day-near.ensures c.requires.none c.in_ok-agenda.ensures.listing a
