@@ -253,6 +253,9 @@ ROWS = [
      lambda: calendar(seconds(12, '', since='18441221')), ['1845-01-01', '9d', '--limit', '1', '--every-day', '--notstarted', '--zone-file', SKIPPED], 8, 64),
     ('64 rules behind what is listed, limit 1', lambda: excluded(64, '', *once('20240628')),
      ['2024-06-28', '10d', '--limit', '1', *NEW_YORK], 1, 32),
+    ('125 rules before their first day, each day', lambda: calendar(seconds(125, 'Z')), ['2024-06-29', '9d', '--limit', '1', '--every-day'], 1, 32),
+    ('100 rules of a day before it by the clock of New York, each day', lambda: calendar(seconds(100, '', 'DURATION:P1D')),
+     ['2024-06-29', '9d', '--limit', '1', '--every-day', *NEW_YORK], 4, 32),
     ('400,000 faulty events, --keep-going', lambda: faulty(400_000), [*DAY, '--keep-going'], 12, 256),
 ]
 
