@@ -16,6 +16,7 @@ mod RoundLemmas
 mod PassedLemmas
 mod EachLemmas
 mod NeverLemmas
+mod MostLemmas
 mod OpenLemmas
 mod TableSteps
 mod TableExamples

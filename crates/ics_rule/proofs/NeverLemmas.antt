@@ -1,64 +1,81 @@
--- What BYSETPOS can't list.
-use Rattle.std.proofs.Common.{◌≡◌, ℕ, ◌+◌, ◌-◌, ◌*◌, ◌<◌, ◌≤◌, false, ◌||◌, Option, None, ap, ◌∙◌}
-use Rattle.std.proofs.Common.{arith}
-use Rattle.std.proofs.lemmas.Bool.{false_from_ne_true}
+-- Rules that choose nothing.
+use Rattle.std.proofs.Common.{◌≡◌, ℕ, ◌+◌, ◌-◌, ◌*◌, ◌/◌, ◌%◌, ◌<◌, ◌≤◌, ◌&&◌, false, Option, None, sym, ap, ◌∙◌, arith}
+use Rattle.std.proofs.lemmas.Bool.{and_parts, false_from_ne_true}
+use Rattle.std.proofs.lemmas.Nat.{div-add-mod', mod-mul-add}
+use Rattle.std.proofs.Math.Nat.{add-mul, mod-lt, mul_assoc}
 use Rattle.jiff_core.specs.Weekday.{monday_zero}
-use Rattle.ics_fields.specs.Sets.{contains_wide}
 use Rattle.ics_fields.specs.Ordinals.{lists_none_wide}
 use Rattle.ics_fields.specs.declared.frequency.Frequency.{Frequency}
 use Rattle.ics_period.specs.declared.effective_rule.EffectiveRule.{EffectiveRule}
 use Rattle.ics_rule.specs.declared.cursor.Cursor.{Cursor}
-use Rattle.ics_period.specs.PeriodNumbers.{rules_end}
-use Rattle.ics_period.specs.Candidates.{period_in}
-use Rattle.ics_period.specs.Ranks.{count, is_chosen}
-use Rattle.ics_period.specs.RecurrencePeriods.{first_local, is_listed}
+use Rattle.ics_period.specs.PeriodNumbers.{day_of, period, rules_end}
+use Rattle.ics_period.specs.Candidates.{is_candidate_in, in_step, lets_date, lets_clock, period_in}
+use Rattle.ics_period.specs.Ranks.{is_chosen, is_placed}
 use Rattle.ics_rule.specs.Cursors.{IsCursorIn}
 use Rattle.ics_rule.specs.Inner.Searches.{NoneWanted, IsWalked}
-use Rattle.ics_period.proofs.Counts.{count-none, count_some}
 use Rattle.ics_rule.specs.Inner.Rounds.{seconds_of}
-use Rattle.ics_rule.specs.Inner.OpenPeriods.{per_day, is_open_period, size_of_open, chosen_of_size, chosen_in_open}
-use Rattle.ics_rule.proofs.EachLemmas.{total_open}
+use Rattle.ics_rule.specs.Inner.OpenPeriods.{IsClosedTo}
+use Rattle.ics_rule.proofs.StepLemmas.{stepped_parts}
+use Rattle.ics_rule.proofs.MostLemmas.{same_time}
 use Rattle.ics_rule.proofs.CursorLemmas.{held_mono, moved_none, not_wanted}
 use Rattle.ics_fields.specs.Locals.{calendar_end}
 
--- BYSETPOS lists only places that are greater than the size of each period that the rule lets in, where a period is a day or less
-pub record IsPast (q : EffectiveRule) : Type 0 where
-  pub fine : 0 < seconds_of q.frequency
-  pub unit : seconds_of q.frequency ≤ 86_400
-  pub some : lists_none_wide q.positions ≡ false
-  pub front : (k : ℕ) → 1 ≤ k → k ≤ size_of_open q → contains_wide q.positions.front k ≡ false
-  pub back : (k : ℕ) → 1 ≤ k → k ≤ size_of_open q → contains_wide q.positions.back k ≡ false
+-- Rests by a divisor.
+rest_of : (d x k : ℕ) → 0 < d → k % d ≡ 0 → (x + k) % d ≡ x % d
+rest_of d x k some none =
+    let whole = div-add-mod' x d in
+    let times = div-add-mod' k d in
+    let spread = add-mul (x / d) (k / d) d in
+    let same : x + k ≡ (x / d + k / d) * d + x % d = omega (arith, whole, times, spread, none) in
+    ap (λ y. y % d) same ∙ mod-mul-add (x / d + k / d) d (x % d) (mod-lt x some)
 
--- the periods of the calendar fill it
-filled : (f : Frequency) (w : ℕ) → 0 < seconds_of f → seconds_of f ≤ 86_400
-    → (first_local f w (3_652_425 * per_day f) ≡ calendar_end) × (3_652_425 * per_day f * seconds_of f ≤ calendar_end)
-filled f w h u = grind arith
+rest_times : (d i t : ℕ) → 0 < d → i % d ≡ 0 → (t * i) % d ≡ 0
+rest_times d i t some none =
+    let times : i ≡ i / d * d = (let whole = div-add-mod' i d in omega (arith, whole, none)) in
+    let same : t * i ≡ t * (i / d) * d + 0 = (let spread = mul_assoc t (i / d) d in let wide = ap (λ x. t * x) times in omega (arith, spread, wide)) in
+    ap (λ y. y % d) same ∙ mod-mul-add (t * (i / d)) d 0 some
 
--- if all of them together have nothing that is chosen, nothing is
-module _ (q : EffectiveRule) (start : ℕ) (fine : 0 < seconds_of q.frequency) (unit : seconds_of q.frequency ≤ 86_400) where
-  none_in_all : count (3_652_425 * per_day q.frequency) (is_open_period q (period_in q start)) * chosen_in_open q ≡ 0 → (n : ℕ) → n < calendar_end
-      → is_chosen q start n ≡ false
-  none_in_all none n inside = false_from_ne_true (is_chosen q start n) (λ yes.
-      let fills = filled q.frequency (monday_zero q.week_start) fine unit in
-      let end = ap (λ x. count x (is_chosen q start)) fills.0 in
-      let total = total_open q start fine unit (3_652_425 * per_day q.frequency) fills.1 in
-      let one = count_some calendar_end n (is_chosen q start) inside yes in
-      omega (arith, end, total, none, one))
+-- numbers from one on, less than a divisor less what it is past a rest, do not leave the rest, unless it is past it by none
+pub apart : (d rest place past x : ℕ) → rest < d → (place + (d - rest)) % d ≡ past → 0 < past → place ≤ x → x < place + (d - past) → x % d ≡ rest → ⊥
+apart d rest place past x less is some low high own =
+    let at = div-add-mod' x d in
+    let begin = div-add-mod' (place + (d - rest)) d in
+    let some_d : 0 < d = omega (arith, less) in
+    let small = mod-lt (place + (d - rest)) some_d in
+    let a = x / d in
+    let c = (place + (d - rest)) / d in
+    let next : (a + 1) * d + 0 ≡ c * d + (past + (x - place)) =
+    (let one : (a + 1) * d ≡ a * d + d = omega arith in omega (arith, at, begin, is, own, less, low, one)) in
+    let left = mod-mul-add (a + 1) d 0 (omega (arith, less)) in
+    let right = mod-mul-add c d (past + (x - place)) (omega (arith, high, low, is, small)) in
+    let same = ap (λ y. y % d) next in
+    omega (arith, left, right, same, some)
 
-  -- no period is open
-  pub never_open : ((p : ℕ) → is_open_period q (period_in q start) p ≡ false) → (n : ℕ) → n < calendar_end → is_chosen q start n ≡ false
-  never_open none = none_in_all
-      (ap (λ x. x * chosen_in_open q) (count-none (3_652_425 * per_day q.frequency) (is_open_period q (period_in q start)) (λ p l. none p))
-      ∙ omega arith)
+-- A local is in a unit of its day.
+place_in : (f : Frequency) (w n : ℕ) → 0 < seconds_of f → seconds_of f ≤ 86_400
+    → period f w n ≡ n % 86_400 / seconds_of f + n / 86_400 * (86_400 / seconds_of f)
+place_in f w n h u = grind arith
 
-pub never_chosen : (q : EffectiveRule) → IsPast q → (start n : ℕ) → n < calendar_end → is_chosen q start n ≡ false
-never_chosen q past start =
-    let none : chosen_in_open q ≡ 0 = ap (λ b. chosen_of_size q b (size_of_open q)) past.some
-    ∙ count-none (size_of_open q) (is_listed q.positions (size_of_open q)) (λ k l.
-    ap (λ x. x || contains_wide q.positions.back (size_of_open q + 1 - (k + 1))) (past.front (k + 1) (omega arith) (omega (arith, l)))
-    ∙ past.back (size_of_open q + 1 - (k + 1)) (omega (arith, l)) (omega arith)) in
-    none_in_all q start past.fine past.unit
-    (ap (λ x. count (3_652_425 * per_day q.frequency) (is_open_period q (period_in q start)) * x) none ∙ omega arith)
+-- if the times of the units that steps can be are closed, nothing is chosen
+pub no_time : (q : EffectiveRule) (start d : ℕ) → 0 < seconds_of q.frequency → seconds_of q.frequency ≤ 86_400 → 0 < d → q.interval % d ≡ 0
+    → (86_400 / seconds_of q.frequency) % d ≡ 0 → IsClosedTo q (seconds_of q.frequency) d (period_in q start % d) 86_400 → (n : ℕ) → is_chosen q start n ≡ false
+no_time q start d fine unit some steps days closed n = false_from_ne_true (is_chosen q start n) (λ yes.
+    let candidate = (and_parts (is_candidate_in q start n) (is_placed q start (lists_none_wide q.positions) n) yes).0 in
+    let both = and_parts (in_step q start n && lets_date q (day_of n)) (lets_clock q n) candidate in
+    let step = (and_parts (in_step q start n) (lets_date q (day_of n)) both.0).0 in
+    let u = seconds_of q.frequency in
+    let first = period_in q start in
+    let p = period_in q n in
+    let parts = stepped_parts first q.interval p step in
+    let t = (p - first) / q.interval in
+    let whole = div-add-mod' (p - first) q.interval in
+    let on : p ≡ first + t * q.interval = omega (arith, whole, parts.0, parts.1) in
+    let one = ap (λ x. x % d) on ∙ rest_of d first (t * q.interval) some (rest_times d q.interval t some steps) in
+    let own = ap (λ x. x % d) (place_in q.frequency (monday_zero q.week_start) n fine unit)
+    ∙ rest_of d (n % 86_400 / u) (n / 86_400 * (86_400 / u)) some (rest_times d (86_400 / u) (n / 86_400) some days) in
+    let none = closed (n % 86_400) (omega arith) (sym own ∙ one) in
+    let no = sym both.1 ∙ sym (same_time q n) ∙ none in
+    absurd cc)
 
 -- so a walk finds nothing
 pub none_wanted : (q : EffectiveRule) (start : ℕ) (o : Option ℕ) (place : ℕ) {stop : ℕ} → stop ≤ rules_end →

@@ -1,9 +1,9 @@
 -- The periods that a rule lets in, counted step by step and by whole days.
 use Rattle.std.proofs.Common.{◌≡◌, ℕ, zero, suc, ◌+◌, ◌-◌, ◌*◌, ◌/◌, ◌%◌, ◌<◌, ◌≤◌, Bool, true, false, cond, ◌&&◌, nat_le, nat_lt, min, refl}
 use Rattle.std.proofs.Common.{sym, ap, ◌∙◌, arith}
-use Rattle.std.proofs.lemmas.Bool.{and_left, cases_lt, false_from_ne_true}
+use Rattle.std.proofs.lemmas.Bool.{and_left, cases_lt}
 use Rattle.std.proofs.lemmas.Bool.Decides.{nat_tests}
-use Rattle.std.proofs.lemmas.Nat.{div-add-mod', mod-mul-add, le-div, div_below, mul-le}
+use Rattle.std.proofs.lemmas.Nat.{div-add-mod', mod-mul-add, le-div, div_below}
 use Rattle.std.proofs.Math.Nat.{add-mul, mod-lt, mul_comm, mul_assoc, mul-le-mul_right}
 use Rattle.ics_fields.specs.declared.frequency.Frequency.{Frequency}
 use Rattle.ics_fields.specs.Sets.{IsLeastFrom}
@@ -11,12 +11,11 @@ use Rattle.ics_period.specs.declared.effective_rule.EffectiveRule.{EffectiveRule
 use Rattle.ics_period.specs.Candidates.{lets_date, is_stepped}
 use Rattle.ics_period.specs.Ranks.{count}
 use Rattle.ics_rule.specs.Inner.Rounds.{seconds_of}
-use Rattle.ics_rule.specs.Inner.OpenPeriods.{per_day, lets_own, is_timely, is_open_period}
-use Rattle.ics_period.proofs.Counts.{count-same, count-suc, count-add, count-none, count-product, count_between, count_most, count_mono, count_one_more}
+use Rattle.ics_rule.specs.Inner.OpenPeriods.{per_day, lets_own, is_open_period}
+use Rattle.ics_period.proofs.Counts.{count-same, count-suc, count-add, count-none, count-product, count_between, count_most}
 use Rattle.ics_period.proofs.RankLemmas.{count_flat}
 use Rattle.ics_rule.proofs.StepLemmas.{stepped_parts, stepped_shown, step_on, none_between}
 use Rattle.ics_rule.proofs.RoundLemmas.{step_repeats}
-use Rattle.ics_period.proofs.Tests.{positive}
 
 -- counts of tests of which each number passes as many
 count-sum : (n : ℕ) (f g h : ℕ → Bool) → ((m : ℕ) → cond (h m) 1 0 ≡ cond (f m) 1 0 + cond (g m) 1 0) → count n h ≡ count n f + count n g
@@ -186,40 +185,6 @@ module _ {q : EffectiveRule} {first from before : ℕ} (run : IsDayRun q first f
 
       inside : (p : ℕ) → from * d ≤ p → p < before * d → placed q first from j p ≡ is_open_period q first p
       inside p l h = let some = run.some in grind (arith, nat_tests, div-add-mod', div_below, le-div, mod-lt, some_periods)
-
--- If no step of one run of days has a time that is let in, no step has.
-module _ (q : EffectiveRule) (first : ℕ) (fine : 0 < seconds_of q.frequency) (unit : seconds_of q.frequency ≤ 86_400) (some : 1 ≤ q.interval) where
-  from_first : IsDayRun q first (first + 1) (first + 1)
-  from_first = record {
-    fine = fine;
-    unit = unit;
-    some = some;
-    later = (let up = mul-le (first + 1) 1 (first + 1) (per_day q.frequency) (omega arith) (day_some q.frequency).0 in omega (arith, up));
-    order = omega arith;
-  }
-
-  pub none_timely : {end : ℕ} → end ≡ first + q.interval * per_day q.frequency
-      → count first (is_timely q first) ≡ count end (is_timely q first) → (p : ℕ) → is_timely q first p ≡ false
-  none_timely {end = end} is none p = false_from_ne_true (is_timely q first p) (λ yes.
-      let low : first ≤ p = grind (arith, nat_tests) in
-      let span = q.interval * per_day q.frequency in
-      let t = (p - first) / span in
-      let x = first + (p - first) % span in
-      let less : (p - first) % span < span = mod-lt (p - first) (positive q.interval (per_day q.frequency) some (day_some q.frequency).0) in
-      let same : p ≡ x + q.interval * t * per_day q.frequency =
-      (let whole = div-add-mod' (p - first) span in let swap : span * t ≡ q.interval * t * per_day q.frequency = grind (arith, mul_comm, mul_assoc) in
-      omega (arith, whole, swap, low)) in
-      let here : is_timely q first x ≡ true = sym (step_later from_first x t (omega arith)) ∙ sym (ap (is_timely q first) same) ∙ yes in
-      let more = count_one_more first x (is_timely q first) (omega arith) here in
-      let up = count_mono (suc x) end (is_timely q first) (omega (arith, less, is)) in
-      omega (arith, more, up, none))
-
-  pub none_open : {end : ℕ} → end ≡ first + q.interval * per_day q.frequency
-      → count first (is_timely q first) ≡ count end (is_timely q first) → (p : ℕ) → is_open_period q first p ≡ false
-  none_open is none p = in_order (is_stepped first q.interval p) (lets_date q (p / per_day q.frequency)) _ (none_timely is none p)
-    where
-      in_order : (a b c : Bool) → (a && c) ≡ false → (a && (b && c)) ≡ false
-      in_order a b c h = grind arith
 
 -- within one day
 module _ (q : EffectiveRule) (first : ℕ) {from before : ℕ} (order : from ≤ before) (day : before ≤ (from / per_day q.frequency + 1) * per_day q.frequency) where

@@ -40,7 +40,7 @@ let_in_alike q n m d c = ap (λ x. x && lets_clock q n) d ∙ ap (λ x. lets_dat
 
 -- Of the parts of the date a rule names weekdays alone, and its periods last alike.
 module _ (q : EffectiveRule) (alone : names_weekdays_alone q ≡ true) (fine : 0 < seconds_of q.frequency) where
-  date_alike : (d e : ℕ) → (lists_no_weekday q.weekdays ≡ true) ⊎ (weekday_of d ≡ weekday_of e) → lets_date q d ≡ lets_date q e
+  pub date_alike : (d e : ℕ) → (lists_no_weekday q.weekdays ≡ true) ⊎ (weekday_of d ≡ weekday_of e) → lets_date q d ≡ lets_date q e
   date_alike d e same = grind (arith, nat_tests, numbered_alike, weekdays_alone)
 
   -- so many seconds later it lets in the same, where each part is absent or they are a multiple of its cycle

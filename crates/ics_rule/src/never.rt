@@ -1,15 +1,17 @@
 //! Rules that choose nothing.
 ghost use Rattle.std.specs.Prelude.{◌≡◌, ℕ, ◌<◌, ◌≤◌, true, false};
 ghost use Rattle.ics_fields.specs.Sets.{contains_wide};
-ghost use Rattle.ics_period.specs.Ranks.{count, is_chosen};
-ghost use Rattle.ics_period.specs.Candidates.{lets};
+ghost use Rattle.ics_period.specs.Ranks.{count, size, is_chosen};
+ghost use Rattle.ics_period.specs.Candidates.{lets, lets_date, lets_clock};
 ghost use Rattle.ics_rule.specs.Inner.Rounds.{seconds_of};
-ghost use Rattle.ics_rule.specs.Inner.OpenPeriods.{size_of_open};
+ghost use Rattle.ics_rule.specs.Inner.OpenPeriods.{size_of_open, most_days, IsClosedTo};
 ghost use Rattle.ics_fields.specs.Locals.{calendar_end};
 
+use crate::pass::next_open_second;
 use crate::rounds::seconds_of;
+use crate::search::Search;
 use ics_fields::{BitSet, Frequency, WideBitSet};
-use ics_period::{EffectiveRule, clock_set, members_below};
+use ics_period::{EffectiveRule, clock_set, lets_date, members_below, names_weekdays_alone};
 
 /// How many values of one unit of the clock a part allows.
 fn readings(part: BitSet, size: u8) -> u64
@@ -19,6 +21,49 @@ fn readings(part: BitSet, size: u8) -> u64
     ensures bound { result ≤ 60 }
 {
     members_below(&clock_set(true, part, 0, size), size as u16)
+}
+
+/// How many times of a day a rule allows.
+fn times_of_day(parts: &EffectiveRule) -> u64
+    ensures value { result ≡ count 86400 (lets_clock parts.now) }
+    ensures bound { result ≤ 216000 }
+{
+    readings(parts.hours, 24) * readings(parts.minutes, 60) * readings(parts.seconds, 60)
+}
+
+/// How many days of each week a rule allows that restricts no other part of the date than weekdays.
+fn open_weekdays(parts: &EffectiveRule) -> u64
+    ensures value { result ≡ count 7 (lets_date parts.now) }
+    ensures bound { result ≤ 7 }
+{
+    let mut total = 0;
+    let mut day = 0;
+    while day < 7 {
+        if lets_date(parts, day) {
+            total += 1;
+        }
+        day += 1;
+    }
+    total
+}
+
+/// A number of days that a rule allows at most in one period, if it is longer than a day.
+fn most_days(parts: &EffectiveRule) -> u64
+    ensures value { result ≡ most_days parts.now.frequency parts.now }
+    ensures bound { result ≤ 366 }
+{
+    match parts.frequency {
+        Frequency::Yearly => 366,
+        Frequency::Monthly => 31,
+        Frequency::Weekly => {
+            if names_weekdays_alone(parts) {
+                open_weekdays(parts)
+            } else {
+                7
+            }
+        }
+        _ => 1,
+    }
 }
 
 /// How many locals each period has that a rule allows, if a period is a day or less.
@@ -32,9 +77,7 @@ pub(crate) fn size_of_open(parts: &EffectiveRule) -> u64
         Frequency::Secondly => 1,
         Frequency::Minutely => readings(parts.seconds, 60),
         Frequency::Hourly => readings(parts.minutes, 60) * readings(parts.seconds, 60),
-        _ => {
-            readings(parts.hours, 24) * readings(parts.minutes, 60) * readings(parts.seconds, 60)
-        }
+        _ => times_of_day(parts),
     }
 }
 
@@ -48,6 +91,18 @@ fn is_past(places: &WideBitSet, most: u64) -> bool
     }
 }
 
+/// A number of locals that a rule allows at most in one period.
+fn most_allowed(parts: &EffectiveRule) -> u64
+    ensures { (start n : ℕ) → size parts.now start n ≤ result }
+{
+    let unit = seconds_of(parts.frequency);
+    if unit == 0 || unit > 86_400 {
+        most_days(parts) * times_of_day(parts)
+    } else {
+        size_of_open(parts)
+    }
+}
+
 /// Whether BYSETPOS lists only places that no period has.
 pub(crate) fn chooses_none(parts: &EffectiveRule) -> bool
     ensures { result ≡ true → (start n : ℕ) → n < calendar_end → is_chosen parts.now start n ≡ false }
@@ -55,10 +110,63 @@ pub(crate) fn chooses_none(parts: &EffectiveRule) -> bool
     if parts.positions.is_empty() {
         return false;
     }
-    let unit = seconds_of(parts.frequency);
+    let most = most_allowed(parts);
+    is_past(&parts.positions.list.front, most) & is_past(&parts.positions.list.back, most)
+}
+
+/// The greatest common divisor of two numbers. No contract says that it is one: its caller tests it.
+fn common_divisor(a: u64, b: u64) -> u64 {
+    let mut divisor = a;
+    let mut rest = b;
+    while rest > 0 {
+        let next = divisor % rest;
+        divisor = rest;
+        rest = next;
+    }
+    divisor
+}
+
+/// Whether a rule allows no time of a day in the units of it whose numbers, from midnight on, leave a rest by a divisor.
+fn is_closed(parts: &EffectiveRule, unit: u64, divisor: u64, rest: u64) -> bool
+    requires unit { 1 ≤ unit }
+    requires day { unit ≤ 86400 }
+    requires rest { rest < divisor }
+    requires divisor { divisor ≤ 86400 }
+    ensures { result ≡ true → IsClosedTo parts.now unit divisor rest 86400 }
+{
+    let mut from = 0;
+    while from < 86_400 {
+        let second = next_open_second(parts, from);
+        if second >= 86_400 {
+            return true;
+        }
+        let place = second / unit;
+        let past = (place + (divisor - rest)) % divisor;
+        if past == 0 {
+            return false;
+        }
+        from = (place + (divisor - past)) * unit;
+    }
+    true
+}
+
+/// Whether no step has an hour, minute and second that are allowed, as far as a common divisor of the interval and of the periods of a day
+/// tells: by it all steps leave the same rest.
+pub(crate) fn has_no_time(search: &Search<'_>) -> bool
+    ensures { result ≡ true → (n : ℕ) → n < calendar_end → is_chosen search.now.parts.now search.now.start n ≡ false }
+{
+    let unit = seconds_of(search.parts.frequency);
     if unit == 0 || unit > 86_400 {
         return false;
     }
-    let most = size_of_open(parts);
-    is_past(&parts.positions.list.front, most) & is_past(&parts.positions.list.back, most)
+    let per_day = 86_400 / unit;
+    let interval = search.parts.interval as u64;
+    let divisor = common_divisor(interval, per_day);
+    if divisor == 0 || divisor > per_day {
+        return false;
+    }
+    if interval % divisor > 0 || per_day % divisor > 0 {
+        return false;
+    }
+    is_closed(search.parts, unit, divisor, search.first % divisor)
 }

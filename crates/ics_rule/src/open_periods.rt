@@ -1,12 +1,11 @@
 //! How many periods of a day or less a rule allows, counted by whole days.
 ghost use Rattle.std.specs.Prelude.{◌≡◌, ℕ, true, false, ◌<◌, ◌≤◌, ◌+◌, ◌-◌, ◌*◌, ◌/◌, ◌^◌, ◌&&◌, Some};
 ghost use Rattle.ics_period.specs.Candidates.{is_stepped, lets_date};
-ghost use Rattle.ics_period.specs.Ranks.{count, is_chosen};
+ghost use Rattle.ics_period.specs.Ranks.{count};
 ghost use Rattle.ics_rule.specs.Inner.Searches.{IsUnderCount};
 ghost use Rattle.ics_rule.specs.Inner.Rounds.{seconds_of, IsPassedTo};
 ghost use Rattle.ics_rule.specs.Inner.OpenPeriods.{per_day, lets_own, is_timely, is_open_period, chosen_in_open};
 ghost use Rattle.ics_fields.specs.Days.{days_before_year};
-ghost use Rattle.ics_fields.specs.Locals.{calendar_end};
 
 use crate::cursor::Cursor;
 use crate::never::size_of_open;
@@ -18,9 +17,6 @@ use ics_period::{
     EffectiveRule, NearDays, lets, lets_date, listed_below, lists_days, period_of, skips_hours,
     skips_minutes, skips_seconds,
 };
-
-/// Steps are counted up to a period before this one.
-const LAST_COUNTED: u64 = 1 << 40;
 
 /// Whether the parts allow the hour, minute and second of a period, as far as the period has them; `n` is its first local.
 fn lets_own(parts: &EffectiveRule, n: u64) -> bool
@@ -163,18 +159,6 @@ fn open_between(search: &Search<'_>, from: u64, before: u64) -> u64
     let one = open_by_days(search, from, from + round);
     let rest = open_by_days(search, from + rounds * round, before);
     rounds * one + rest
-}
-
-/// Whether no step has an hour, minute and second that are allowed. Steps have the same times after as many days as the interval has periods.
-pub(crate) fn has_no_time(search: &Search<'_>) -> bool
-    ensures { result ≡ true → (n : ℕ) → n < calendar_end → is_chosen search.now.parts.now search.now.start n ≡ false }
-{
-    let unit = seconds_of(search.parts.frequency);
-    if unit == 0 || unit > 86_400 {
-        return false;
-    }
-    let end = search.first + search.parts.interval as u64 * (86_400 / unit);
-    end < LAST_COUNTED && steps_let_in(search, search.first, end) == 0
 }
 
 /// How many locals are chosen in each period that is allowed.

@@ -76,7 +76,7 @@ fn next_open_day(parts: &EffectiveRule, day: u32, end: u32) -> u32
 }
 
 /// The first local from one on whose time a rule allows, or the end of its day.
-fn next_open_second(parts: &EffectiveRule, n: u64) -> u64
+pub(crate) fn next_open_second(parts: &EffectiveRule, n: u64) -> u64
     requires { n < calendar_end }
     ensures low { n ≤ result }
     ensures high { result ≤ n + 86400 }

@@ -11,8 +11,7 @@ ghost use Rattle.ics_period.specs.Ranks.{is_chosen};
 ghost use Rattle.ics_fields.specs.Locals.{calendar_end};
 
 use crate::cursor::Cursor;
-use crate::never::chooses_none;
-use crate::open_periods::has_no_time;
+use crate::never::{chooses_none, has_no_time};
 use crate::pass::next_open_step;
 use crate::rounds::last_to_look_at;
 use crate::search::Search;

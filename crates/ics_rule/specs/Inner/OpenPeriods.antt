@@ -1,12 +1,13 @@
 -- Periods of a day or less. Those that a rule allows all have the same number of locals.
-use Rattle.std.specs.Prelude.{ℕ, ◌*◌, ◌/◌, Bool, not, true, false, ◌&&◌, ◌||◌}
+use Rattle.std.specs.Prelude.{◌≡◌, ℕ, ◌*◌, ◌/◌, ◌%◌, ◌<◌, Bool, not, true, false, ◌&&◌, ◌||◌, if◌then◌else◌}
 use Rattle.ics_fields.specs.declared.frequency.Frequency.{Frequency}
 use Rattle.ics_fields.specs.declared.frequency.Frequency.TheVariants.{Secondly, Minutely, Hourly, Daily, Weekly, Monthly, Yearly}
 use Rattle.ics_fields.specs.Ordinals.{lists_none_wide}
 use Rattle.ics_period.specs.declared.effective_rule.EffectiveRule.{EffectiveRule}
 use Rattle.ics_period.specs.PeriodNumbers.{hour_of, minute_of, second_of}
 use Rattle.ics_period.specs.EffectiveRules.{skips_hours, skips_minutes, skips_seconds}
-use Rattle.ics_period.specs.Candidates.{lets, lets_date, is_stepped}
+use Rattle.ics_period.specs.Candidates.{lets, lets_date, lets_clock, is_stepped}
+use Rattle.ics_period.specs.DateParts.{names_weekdays_alone}
 use Rattle.ics_period.specs.Ranks.{count}
 use Rattle.ics_period.specs.RecurrencePeriods.{is_listed}
 use Rattle.ics_rule.specs.Inner.Rounds.{seconds_of}
@@ -46,6 +47,16 @@ is_open_period q first p =
 abbrev pub size_of_open : EffectiveRule → ℕ
 size_of_open q = count (seconds_of q.frequency) (lets_within q.frequency q)
 
+-- a number of days that the rule allows at most in one period, if it is longer than a day
+abbrev pub most_days : Frequency → EffectiveRule → ℕ
+most_days Secondly q = 1
+most_days Minutely q = 1
+most_days Hourly q = 1
+most_days Daily q = 1
+most_days Weekly q = if names_weekdays_alone q then count 7 (lets_date q) else 7
+most_days Monthly q = 31
+most_days Yearly q = 366
+
 -- how many of them BYSETPOS allows; all of them if it is absent
 abbrev pub chosen_of_size : EffectiveRule → Bool → ℕ → ℕ
 chosen_of_size q true size = size
@@ -53,3 +64,7 @@ chosen_of_size q false size = count size (is_listed q.positions size)
 
 abbrev pub chosen_in_open : EffectiveRule → ℕ
 chosen_in_open q = chosen_of_size q (lists_none_wide q.positions) (size_of_open q)
+
+-- the rule allows no time before a second of the day, of those in the units of a day whose numbers leave a rest by a divisor
+abbrev pub IsClosedTo : EffectiveRule → ℕ → ℕ → ℕ → ℕ → Type 0
+IsClosedTo q unit divisor rest before = (m : ℕ) → m < before → m / unit % divisor ≡ rest → lets_clock q m ≡ false
