@@ -13,7 +13,7 @@ use Rattle.ics_zone.specs.Observances.{ObservanceSaid}
 use Rattle.ics_zone.specs.ZoneOffsets.{natural, IsOnset, IsInForce, IsBeforeAll, IsOffset, zone_offset, IsNotLater}
 use Rattle.ics_zone.specs.Moments.{shown, IsFirstTime}
 use Rattle.ics_zone.specs.Inner.ZoneOnsets.{HaveOffsets, IsKnown, IsLatest, IsLatestOf, IsFirstOffset, IsNextPast, IsClear, IsJump, IsSteady, IsOverridden}
-use Rattle.ics_zone.specs.Inner.ZoneOnsets.{AreSteady, KeepOffset}
+use Rattle.ics_zone.specs.Inner.ZoneOnsets.{AreSteady, StayOffset}
 use Rattle.ics_zone.specs.Inner.ZoneBounds.{zone_short}
 use Rattle.ics_zone.specs.Inner.Searches.{natural-is}
 use Rattle.ics_zone.proofs.OnsetLemmas.{offset_found}
@@ -64,15 +64,23 @@ module _ (observances : ZoneObservances) (some : 0 < length observances.said.ite
   before_all_is : (t : ℤ) (p : ObservanceSaid) → IsBeforeAll zone t p → p.offset_from ≡ zone_offset zone t
   before_all_is t p f = offset_unique zone t p.offset_from (zone_offset zone t) (inr (p, f, refl)) (is_offset t)
 
-  -- the greatest onset of all observances begins a span in which its offset holds, up to where the next other offset may begin
-  pub steady_since : (t next : ℤ) (e : Latest) → KeepOffset zone e.offset t next → IsLatest zone t (length zone) e
-      → IsSteady (zone_offset zone) e.at next e.offset
-  steady_since t next e kept h u low high = elim (is_offset u) [
-    | inl x ↦ elim (less_or_not_z t x.1.since) [
-      | inl late ↦ elim (kept x.1.place x.1.since x.0 x.1.onset late) [
-        | inl same ↦ same ∙ sym x.2
-        | inr past ↦ absurd (let now = x.1.not_after in omega (arith, ints))
+  -- an onset in force that is within such a time begins the offset: it is not overridden at its own instant
+  stays : (t next offset u : ℤ) (p : ObservanceSaid) → StayOffset zone offset t next → (f : IsInForce zone u p) → t <ℤ f.since → u <ℤ next
+      → offset ≡ p.offset_to
+  stays t next offset u p stay f late high =
+      let now = f.not_after in
+      elim (stay f.place f.since p f.onset late (omega (arith, ints, now, high))) [
+        | inl same ↦ same
+        | inr over ↦ absurd (
+            let not_greater = f.greatest over.0 f.since over.1.0 over.1.1.0 now in let after = over.1.1.1.0 in grind (arith, ints))
       ]
+
+  -- the greatest onset of all observances begins a span in which its offset holds, up to where the next other offset may begin
+  pub steady_since : (t next : ℤ) (e : Latest) → StayOffset zone e.offset t next → IsLatest zone t (length zone) e
+      → IsSteady (zone_offset zone) e.at next e.offset
+  steady_since t next e stay h u low high = elim (is_offset u) [
+    | inl x ↦ elim (less_or_not_z t x.1.since) [
+      | inl late ↦ stays t next e.offset u x.0 stay x.1 late high ∙ sym x.2
       | inr early ↦ h.offset ∙ ap (λ p. p.offset_to) (one_onset zone h.onset x.1.onset (x.1.greatest e.place e.at h.observance h.onset low)
           (h.greatest x.1.place x.1.since x.0 (slice_get_within zone x.1.place x.0 x.1.onset.0) x.1.onset early)) ∙ sym x.2
     ]
@@ -80,7 +88,7 @@ module _ (observances : ZoneObservances) (some : 0 < length observances.said.ite
   ]
 
   pub latest_is : (t : ℤ) (e : Latest) → IsLatestOf zone t (length zone) (Some e) → e.offset ≡ zone_offset zone t
-  latest_is t e h = steady_since t (t +ℤ pos 1) e (λ i s p g l. inr (omega (arith, ints))) h t h.not_after (omega (arith, ints))
+  latest_is t e h = steady_since t (t +ℤ pos 1) e (λ i s p g l early. absurd (omega (arith, ints))) h t h.not_after (omega (arith, ints))
 
   pub none_is : (t offset : ℤ) → IsLatestOf zone t (length zone) None → IsFirstOffset zone offset → offset ≡ zone_offset zone t
   none_is t offset h (at, f) = f.is ∙ before_all_is t f.observance (record {
@@ -92,15 +100,12 @@ module _ (observances : ZoneObservances) (some : 0 < length observances.said.ite
   })
 
   -- before all onsets it is one offset, up to where the first other may begin
-  pub steady_before : (t next from offset : ℤ) → IsLatestOf zone t (length zone) None → KeepOffset zone offset t next → IsFirstOffset zone offset
+  pub steady_before : (t next from offset : ℤ) → IsLatestOf zone t (length zone) None → StayOffset zone offset t next → IsFirstOffset zone offset
       → IsSteady (zone_offset zone) from next offset
-  steady_before t next from offset none kept first u low high = elim (is_offset u) [
+  steady_before t next from offset none stay first u low high = elim (is_offset u) [
     | inl x ↦ (
         let late = none x.1.place x.1.since x.0 (slice_get_within zone x.1.place x.0 x.1.onset.0) x.1.onset in
-        elim (kept x.1.place x.1.since x.0 x.1.onset late) [
-          | inl same ↦ same ∙ sym x.2
-          | inr past ↦ absurd (let now = x.1.not_after in omega (arith, ints))
-        ])
+        stays t next offset u x.0 stay x.1 late high ∙ sym x.2)
     | inr x ↦ (
         let f = first.1 in
         f.is ∙ ap (λ p. p.offset_from) (one_onset zone f.onset x.1.onset

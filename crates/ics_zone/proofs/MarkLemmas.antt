@@ -1,5 +1,5 @@
 -- The marks at the onsets of an hour.
-use Rattle.std.proofs.Common.{◌≡◌, ℕ, ◌+◌, ◌<◌, ◌≤◌, ◌⊎◌, ◌*◌, ◌/◌, ◌==◌, ◌&&◌, ◌||◌, inl, inr, Bool, true, false, arith}
+use Rattle.std.proofs.Common.{◌≡◌, ℕ, ◌+◌, ◌<◌, ◌≤◌, ◌⊎◌, ◌*◌, ◌/◌, ◌==◌, ◌&&◌, ◌||◌, inl, inr, Bool, true, false, sym, ◌∙◌, arith}
 use Rattle.std.proofs.Common.{List, length, get_or, set, replicate, bit_or, ℤ, pos, ◌+ℤ◌, ◌-ℤ◌, ◌<ℤ◌, ◌≤ℤ◌, int_lt}
 use Rattle.std.proofs.lemmas.Bool.{cases_lt, cases_eq, eqb-true, eq-eqb, or_cases, or_left, or_right, and_parts, both_ways}
 use Rattle.std.proofs.lemmas.Int.{ints}
@@ -99,10 +99,64 @@ module _ {zone : List ObservanceSaid} {list : List Onsets} {k : ℕ} {o : Onsets
     ],
   )
 
+-- an observance past a place has an onset at an instant, which begins an offset
+abbrev IsBegun : List ObservanceSaid → ℕ → ℤ → ℤ → Type 0
+IsBegun zone i offset s = (j : ℕ) × ((q : ObservanceSaid) × (IsOnset zone j s q × ((i < j) × (offset ≡ q.offset_to))))
+
+-- each marked second has such an onset, past each place before one
+abbrev pub AreBegun : List ObservanceSaid → ℕ → ℤ → ℤ → List ℕ → Type 0
+AreBegun zone place offset from marks = (k i : ℕ) → IsMarked marks k → i < place → IsBegun zone i offset (from +ℤ pos k)
+
+-- of the observances from a place on: each onset begins an offset, or is overridden at its own instant by one that does
+abbrev pub StayFrom : List ObservanceSaid → ℕ → ℤ → ℤ → ℤ → Type 0
+StayFrom zone place offset after next =
+    (i : ℕ) (s : ℤ) (p : ObservanceSaid) → place ≤ i → IsOnset zone i s p → after <ℤ s → s <ℤ next → (offset ≡ p.offset_to) ⊎ IsBegun zone i offset s
+
+module _ {zone : List ObservanceSaid} {list : List Onsets} {k : ℕ} {o : Onsets} (all : AreOnsetsOfAll zone list) (inside : k < length list)
+    (at_place : o ≡ get_or list k o) {local offset : ℤ} (after : ℤ) (before now : List ℕ)
+    (side : (o.offset_to ≡ offset) ⊎ ((m : ℕ) → local <ℤ (after +ℤ pos 1 +ℤ pos m +ℤ o.offset_to)))
+    (over : AreBegun zone (k + 1) offset (after +ℤ pos 1) before) (marks : AreMarks o local (after +ℤ pos 1) before now) where
+  begun_more : AreBegun zone k offset (after +ℤ pos 1) now
+  begun_more m i h early = elim (marks m h) [
+    | inl old ↦ over m i old (omega arith)
+    | inr here ↦ elim side [
+      | inl own ↦ (
+          let there = observance_here all inside at_place in
+          let of = onsets_here all inside at_place in
+          (k, (there.0, ((there.1, of.known (after +ℤ pos 1 +ℤ pos m) here.0), (early, sym own ∙ of.to)))))
+      | inr other ↦ absurd (let late = other m in let low = here.1 in omega (arith, ints, late, low))
+    ]
+  ]
+
+  pub stay_more : {next new : ℤ} → new ≤ℤ next → AreClear o local (after +ℤ pos 1) now new → StayFrom zone (k + 1) offset after next
+      → AreBegun zone k offset (after +ℤ pos 1) now × StayFrom zone k offset after new
+  stay_more less clear old = (
+    begun_more,
+    λ i s p from h late early. elim (cases_lt k i) [
+      | inl more ↦ old i s p (omega arith) h late (omega (arith, ints))
+      | inr not_more ↦ (
+          let same : i ≡ k = omega arith in
+          let of = onsets_at all inside at_place p (rw same at h.0) in
+          elim side [
+            | inl own ↦ inl (sym own ∙ of.to)
+            | inr other ↦ (
+                let m = natural (s -ℤ (after +ℤ pos 1)) in
+                let at : after +ℤ pos 1 +ℤ pos m ≡ s = omega (arith, ints, natural-is (s -ℤ (after +ℤ pos 1)) (omega (arith, ints))) in
+                elim (marks m (clear m (rw at (of.complete s h.1)) (omega (arith, ints)) (other m))) [
+                  | inl mark ↦ inr (rw at at (over m i mark (omega arith)))
+                  | inr low ↦ absurd (let late = other m in let l = low.1 in omega (arith, ints, late, l))
+                ])
+          ])
+    ],
+  )
+
 -- nothing is marked at first
 pub none_marked : (size k : ℕ) → is_marked (replicate size 0) k ≡ false
 none_marked size k = grind (arith, cases_lt, has_none, get_or-replicate, get_or_past, length-replicate)
 
 -- of the observances past the last nothing is said
+pub begun_none : (zone : List ObservanceSaid) (place size : ℕ) (offset from : ℤ) → AreBegun zone place offset from (replicate size 0)
+begun_none zone place size offset from k i h early = absurd (both_ways (is_marked (replicate size 0) k) (none_marked size k) h)
+
 pub overrides_none : (zone : List ObservanceSaid) (place size : ℕ) (local from : ℤ) → AreOverrides zone place local from (replicate size 0)
 overrides_none zone place size local from k i h early = absurd (both_ways (is_marked (replicate size 0) k) (none_marked size k) h)

@@ -1,8 +1,9 @@
 -- What spans in their order tell of the instant of a local.
 use Rattle.std.proofs.Common.{◌≡◌, ◌≢◌, ◌⊎◌, inl, inr, arith, refl, sym, subst, Option, Some, None, MatchOption, IfSome, ℤ, pos, ◌+ℤ◌, ◌-ℤ◌, ◌<ℤ◌, ◌≤ℤ◌}
-use Rattle.std.proofs.Common.{Bool, true, false, cond, List, [], ◌∷◌, ◌++◌}
-use Rattle.std.proofs.lemmas.Int.{ints}
-use Rattle.std.proofs.lemmas.List.Elements.{All-push}
+use Rattle.std.proofs.Common.{Bool, true, false, cond, ◌∙◌, ◌<◌, ℕ, length, get_or, set, List, [], ◌∷◌, ◌++◌}
+use Rattle.std.specs.Int.{int_max}
+use Rattle.std.proofs.lemmas.Int.{ints, clamps}
+use Rattle.std.proofs.lemmas.List.Elements.{All-push, All-set}
 use Rattle.ics_zone.specs.declared.answers.Answer.{Answer}
 use Rattle.ics_zone.specs.declared.latest.Steady.{Steady}
 use Rattle.ics_zone.specs.declared.walk.Walk.{Walk}
@@ -17,6 +18,24 @@ pub steady_pushed : {offset : ℤ → ℤ} (was : List Steady) {now : List Stead
 steady_pushed {offset = offset} was s true is spans steady =
     rw is (All-push (λ (s : Steady). IsSteady offset s.from s.next s.offset) was s spans steady)
 steady_pushed was s false is spans steady = rw is spans
+
+-- two spans of one offset, of which the first reaches to the second, become one
+pub steady_joined : {offset : ℤ → ℤ} (spans : List Steady) (place : ℕ) (first second whole : Steady) → place < length spans
+    → first ≡ get_or spans place first → second.from ≤ℤ first.next → first.offset ≡ second.offset
+    → (whole.from ≡ first.from) × ((whole.next ≡ int_max first.next second.next) × (whole.offset ≡ first.offset))
+    → AreSteady offset spans → IsSteady offset second.from second.next second.offset → AreSteady offset (set spans place whole)
+steady_joined {offset = offset} spans place first second whole inside here meets same is steady more =
+    All-set (λ (s : Steady). IsSteady offset s.from s.next s.offset) spans place whole (λ t low high.
+    elim (less_or_not t first.next) [
+      | inl less ↦ is.1.1 ∙ before t (omega (arith, ints, low, is.0)) less
+      | inr late ↦ is.1.1 ∙ same ∙ more t (omega (arith, ints, late, meets)) (omega (arith, ints, clamps, high, is.1.0, late))
+    ]) steady
+  where
+    less_or_not : (a b : ℤ) → (a <ℤ b) ⊎ (b ≤ℤ a)
+    less_or_not a b = grind (arith, ints)
+
+    before : IsSteady offset first.from first.next first.offset
+    before = rw here (steady place first inside)
 
 -- an answer more, or none where memory is refused
 pub answer_pushed : {offset : ℤ → ℤ} (was : List Answer) {now : List Answer} (a : Answer) (b : Bool) → now ≡ cond b (was ++ a ∷ []) was

@@ -11,7 +11,7 @@ use Rattle.ics_zone.specs.Observances.{ObservanceSaid}
 use Rattle.ics_zone.specs.ZoneOffsets.{IsOnset, IsNotLater}
 use Rattle.ics_zone.specs.Inner.Latest.{IsLast}
 use Rattle.ics_zone.specs.Inner.OnsetSets.{Has, IsSound, AreOnsetsOf}
-use Rattle.ics_zone.specs.Inner.ZoneOnsets.{AreOnsetsOfAll, IsLatest, IsLatestOf, IsLatestWithin, IsFirst, IsOverridden}
+use Rattle.ics_zone.specs.Inner.ZoneOnsets.{AreOnsetsOfAll, IsLatest, IsLatestOf, IsLatestWithin, IsFirst, IsOverridden, KeepOffset, StayOffset}
 use Rattle.ics_zone.proofs.Cases.{below_or_at, less_or_not_z}
 
 -- each place of a zone has an observance
@@ -53,6 +53,18 @@ pub record IsLastOnset (k : ℕ) (o : Onsets) (t : ℤ) (e : Latest) : Type 0 wh
   pub place : e.place ≡ k
   pub offset : e.offset ≡ o.offset_to
   pub last : IsLast (Has o) t e.at
+
+-- where each onset up to an instant begins an offset, none is to be overridden
+pub keep_stays : (zone : List ObservanceSaid) {offset after next : ℤ} → KeepOffset zone offset after next → StayOffset zone offset after next
+keep_stays zone keep i s p h late early = elim (keep i s p h late) [ inl same ↦ inl same | inr past ↦ absurd (omega (arith, ints, past, early)) ]
+
+-- two such times, of which the first reaches to the second
+pub stay_on : (zone : List ObservanceSaid) {offset after next begin end : ℤ} (to : ℤ) → StayOffset zone offset after next → StayOffset zone offset begin end
+    → begin <ℤ next → to ≤ℤ end → StayOffset zone offset after to
+stay_on zone {next = next} to first second meets within i s p h late early = elim (less_or_not_z s next) [
+  | inl less ↦ first i s p h late less
+  | inr more ↦ second i s p h (omega (arith, ints, more, meets)) (omega (arith, ints, early, within))
+]
 
 module _ {zone : List ObservanceSaid} {list : List Onsets} {k : ℕ} {o : Onsets} (all : AreOnsetsOfAll zone list) (inside : k < length list)
     (at_place : o ≡ get_or list k o) where

@@ -1,12 +1,13 @@
 //! The onsets of all observances of a zone near an instant.
 ghost use Rattle.std.specs.Prelude.{◌≡◌, ℤ, pos, ◌<◌, true, false, length, List, ◌⊎◌, ◌+ℤ◌, ◌-ℤ◌, ◌<ℤ◌, ◌≤ℤ◌, MatchOption};
 ghost use Rattle.std.specs.List.{All};
+ghost use Rattle.jiff_core.specs.Calendar.{IsWithin};
 ghost use Rattle.ics_zone.specs.Observances.{ObservanceSaid};
-ghost use Rattle.ics_zone.specs.Inner.OnsetSets.{Has, IsSound};
+ghost use Rattle.ics_zone.specs.Inner.OnsetSets.{Has, IsSearched, IsSound};
 ghost use Rattle.ics_zone.specs.Seconds.{IsMoment};
-ghost use Rattle.ics_zone.specs.Inner.ZoneOnsets.{AreOnsetsOfAll, IsLatestOf, IsLatestWithin, IsFirstOffset, IsNextPast, IsClear, IsOverridden, KeepOffset};
+ghost use Rattle.ics_zone.specs.Inner.ZoneOnsets.{AreOnsetsOfAll, IsLatestOf, IsLatestWithin, IsFirstOffset, IsNextPast, IsClear, IsOverridden, KeepOffset, StayOffset};
 
-use crate::clock::EPOCH;
+use crate::clock::{EPOCH, FIRST_HELD, LAST_HELD};
 use crate::onsets::Onsets;
 use ics_fields::Moment;
 
@@ -14,6 +15,12 @@ const DAY: i64 = 86_400;
 
 /// 0000-01-01T00:00:00 UTC. An observance has its first onset later than this.
 const YEARS_BEGIN: Moment = -EPOCH;
+
+/// More seconds than an hour and the greatest offset that a number has room for.
+const BEYOND: i64 = 5_000_000_000;
+
+/// How many hours of onsets are looked at for the end of a span, in a zone of one observance, and fewer if there are more.
+const HOURS: usize = 2_048;
 
 /// An onset of an observance, the place of the observance in its component, and the offset after the onset.
 #[derive(Clone, Copy)]
@@ -204,6 +211,74 @@ pub(crate) fn next_other(onsets: &[Onsets], offset: i32, after: Moment, limit: M
             continue;
         }
         next = one.next(after, next);
+    }
+    next
+}
+
+/// Whether an onset at an instant begins an offset.
+fn begins(onsets: &[Onsets], offset: i32, at: Moment) -> bool
+    requires sound { All IsSound onsets.now }
+    requires at { IsSearched at }
+{
+    for one in onsets {
+        if one.offset_to == offset && one.next(at - 1, at + 1) == at {
+            return true;
+        }
+    }
+    false
+}
+
+/// How many seconds after an instant, an hour at most, have no onset that begins another offset than one, but those that are overridden at their
+/// own instant by one that begins it.
+pub(crate) fn stay_after(onsets: &[Onsets], offset: i32, after: Moment) -> i64
+    requires sound { All IsSound onsets.now }
+    requires near { IsWithin 290_000_000_000 after }
+    ensures some { pos 0 ≤ℤ result }
+    ensures most { result ≤ℤ pos 3_600 }
+    ensures stay { (zone : List ObservanceSaid) → AreOnsetsOfAll zone onsets.now → StayOffset zone offset after (after +ℤ result +ℤ pos 1) }
+{
+    let mut over = [0; 60];
+    let mut stay = 3_600;
+    for place in (0..onsets.len()).rev() {
+        let one = &onsets[place];
+        let last = last_own(after, one.offset_to, offset);
+        stay = one.clear(last, after + 1, &mut over, stay);
+    }
+    stay
+}
+
+/// A local, given by its seconds, that is later than all that a clock shows in the hour after an instant, if two offsets are the same. Else it is
+/// earlier than all.
+fn last_own(after: Moment, own: i32, offset: i32) -> i64
+    requires { IsWithin 290_000_000_000 after }
+    ensures near { IsSearched result }
+    ensures side { (own ≡ offset) ⊎ (result ≡ after -ℤ pos 5_000_000_000) }
+{
+    if own == offset {
+        after + BEYOND
+    } else {
+        after - BEYOND
+    }
+}
+
+/// An instant after the given one, up to which each onset begins an offset, or is overridden at its own instant by one that does. It is the first
+/// that is neither or a limit, if so many hours of onsets are not too many.
+pub(crate) fn next_change(onsets: &[Onsets], offset: i32, after: Moment, limit: Moment) -> Moment
+    requires sound { All IsSound onsets.now }
+    requires limit { after <ℤ limit }
+    ensures { (zone : List ObservanceSaid) → AreOnsetsOfAll zone onsets.now → StayOffset zone offset after result }
+{
+    let mut next = next_other(onsets, offset, after, limit);
+    for _ in 0..HOURS / onsets.len().max(1) {
+        if next < FIRST_HELD || next >= limit.min(LAST_HELD) || !begins(onsets, offset, next) {
+            return next;
+        }
+        let stay = stay_after(onsets, offset, next - 1);
+        let last = next + 3_599;
+        if last >= limit || stay < 3_600 {
+            return next + stay;
+        }
+        next = next_other(onsets, offset, last, limit);
     }
     next
 }

@@ -9,14 +9,14 @@ ghost use Rattle.ics_zone.specs.Seconds.{IsDay, IsMoment};
 ghost use Rattle.ics_zone.specs.Inner.Answers.{AreAnswers};
 ghost use Rattle.ics_fields.specs.Locals.{seconds_at};
 ghost use Rattle.ics_zone.specs.Inner.OnsetSets.{IsSearched};
-ghost use Rattle.ics_zone.specs.Inner.ZoneOnsets.{AreOnsetsOfAll, AreSteady, HaveOffsets, IsLatestOf};
+ghost use Rattle.ics_zone.specs.Inner.ZoneOnsets.{AreOnsetsOfAll, AreSteady, HaveOffsets, IsLatestOf, IsSteady};
 ghost use Rattle.ics_zone.specs.Inner.Tables.{IsTable};
 
 use crate::answers::{Answer, add_answers, group_end};
 use crate::clock::{FIRST_HELD, LAST_HELD, is_moment};
 use crate::latest::{
     Latest, Steady, clear_after, first_listed, first_offset, latest_of, latest_within, look_on,
-    next_other, next_past, overrides,
+    next_change, next_past, overrides,
 };
 use crate::onsets::Onsets;
 use crate::spans::{SpanList, told_stretch};
@@ -78,6 +78,9 @@ const NEAR_OF_EACH: usize = 16;
 
 /// In a zone that has no more offsets, spans are made for the instants at which each of them may show a local.
 const FEW_OFFSETS: usize = 4;
+
+/// How many spans are made for one local then.
+const MADE: usize = 6;
 
 /// A span of no instant, which comes after all others.
 const NO_SPAN: Steady = Steady {
@@ -417,24 +420,35 @@ impl Observed {
             return None;
         }
         let mut spans = Vec::new(*self.held.allocator());
-        for k in 0..FEW_OFFSETS {
+        for k in 0..MADE {
             spans.push(made[k]).ok()?;
         }
         Some((stretch.to, spans))
     }
 
-    /// The spans over the instants at which a local, given by its seconds, may be shown, in a zone of few offsets, and else none.
-    fn made(&self, seconds: i64) -> [Steady; FEW_OFFSETS]
+    /// The spans over the instants at which a local, given by its seconds, may be shown, in a zone of few offsets, and else none. Those that follow
+    /// each other between them are made too, as far as there is room.
+    fn made(&self, seconds: i64) -> [Steady; MADE]
         requires { IsMoment seconds }
         ensures { AreSteady (zone_offset self.now.said.items) result }
     {
-        let mut made = [NO_SPAN; FEW_OFFSETS];
+        let mut made = [NO_SPAN; MADE];
         let count = self.offsets.len();
         if count > FEW_OFFSETS || self.has_many() {
             return made;
         }
-        for k in 0..count {
-            made[k] = self.span_near(seconds - i64::from(self.offsets[k]));
+        let mut asked = 0;
+        let mut next = seconds + DAY;
+        for k in 0..MADE {
+            if asked >= count {
+                return made;
+            }
+            let at = seconds - i64::from(self.offsets[asked]);
+            let has_room = k + (count - asked) < MADE;
+            let span = self.span_near(on_to(seconds, at, next, has_room));
+            made[k] = span;
+            next = span.next;
+            asked = asked_before(&self.offsets, seconds, next);
         }
         made
     }
@@ -559,7 +573,7 @@ impl Observed {
         for k in 0..table.len() {
             let span = self.span_from(table, k, last);
             if span.from < span.next {
-                spans.push(span)?;
+                add_span(spans, span)?;
             }
         }
         Ok(())
@@ -708,7 +722,8 @@ impl Observed {
         moment_in(&spans, seconds)
     }
 
-    /// The span about an instant, from one onset to the next that begins another offset. Before all onsets it has no beginning.
+    /// The span about an instant, from one onset to the next that begins another offset and is not overridden at its own instant by one that begins
+    /// the same. Before all onsets it has no beginning.
     fn steady_about(&self, near: Moment) -> Steady
         requires { IsSearched near }
         ensures { IsSteady (zone_offset self.now.said.items) result.from result.next result.offset }
@@ -717,14 +732,14 @@ impl Observed {
         match self.latest_about(near) {
             Some(latest) => Steady {
                 from: latest.at,
-                next: next_other(&self.onsets, latest.offset, near, last),
+                next: next_change(&self.onsets, latest.offset, near, last),
                 offset: latest.offset,
             },
             None => {
                 let offset = first_offset(&self.onsets);
                 Steady {
                     from: Moment::MIN,
-                    next: next_other(&self.onsets, offset, near, last),
+                    next: next_change(&self.onsets, offset, near, last),
                     offset,
                 }
             }
@@ -948,6 +963,35 @@ impl Observed {
     }
 }
 
+/// Adds a span to a list. If the last one reaches to its beginning and has the same offset, the two become one.
+fn add_span(spans: &mut Vec<Steady>, span: Steady) -> Result<(), AllocError>
+    ensures { (offset : ℤ → ℤ) → AreSteady offset spans.old.items → IsSteady offset span.from span.next span.offset → AreSteady offset spans.new.items }
+{
+    let count = spans.len();
+    if count > 0 {
+        let last = spans[count - 1];
+        if span.from <= last.next && last.offset == span.offset {
+            spans[count - 1] = joined(last, span);
+            return Ok(());
+        }
+    }
+    spans.push(span)?;
+    Ok(())
+}
+
+/// Two spans of one offset as one, where the first reaches to the second.
+fn joined(first: Steady, second: Steady) -> Steady
+    ensures from { result.from ≡ first.from }
+    ensures next { result.next ≡ int_max first.next second.next }
+    ensures offset { result.offset ≡ first.offset }
+{
+    Steady {
+        from: first.from,
+        next: first.next.max(second.next),
+        offset: first.offset,
+    }
+}
+
 /// Whether there is a first instant, and it is not after a second.
 fn is_by(first: Option<Moment>, second: Moment) -> bool
     ensures { MatchOption first (result ≡ false) (λ f. result ≡ true → f ≤ℤ second) }
@@ -1012,6 +1056,32 @@ fn is_enough(made: usize, reached: i64, ahead: i64) -> bool {
         HELD_AT_ONCE => reached < ahead,
         _ => false,
     }
+}
+
+/// The instant at which the next span about a local is made, given its seconds: that at which an offset shows it or, if there is room, the end of the
+/// last span, where this is earlier.
+fn on_to(seconds: i64, at: Moment, next: Moment, has_room: bool) -> Moment
+    requires local { IsMoment seconds }
+    requires at { IsSearched at }
+    ensures { IsSearched result }
+{
+    if has_room {
+        at.min(next.max(seconds - DAY))
+    } else {
+        at
+    }
+}
+
+/// How many offsets, of those from the greatest on, show a local, given by its seconds, before an instant.
+fn asked_before(offsets: &[i32], seconds: i64, next: Moment) -> usize
+    requires { IsMoment seconds }
+{
+    for k in 0..offsets.len() {
+        if seconds - i64::from(offsets[k]) >= next {
+            return k;
+        }
+    }
+    offsets.len()
 }
 
 /// How many onsets of a zone are listed.

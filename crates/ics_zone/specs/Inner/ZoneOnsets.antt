@@ -87,6 +87,12 @@ abbrev pub KeepOffset : List ObservanceSaid → ℤ → ℤ → ℤ → Type 0
 KeepOffset zone offset after next =
     (i : ℕ) (s : ℤ) (p : ObservanceSaid) → IsOnset zone i s p → after <ℤ s → (offset ≡ p.offset_to) ⊎ (next ≤ℤ s)
 
+-- each onset after one instant and before another begins the same offset, or is overridden at its own instant by one that does
+abbrev pub StayOffset : List ObservanceSaid → ℤ → ℤ → ℤ → Type 0
+StayOffset zone offset after next =
+    (i : ℕ) (s : ℤ) (p : ObservanceSaid) → IsOnset zone i s p → after <ℤ s → s <ℤ next
+    → (offset ≡ p.offset_to) ⊎ ((j : ℕ) × ((q : ObservanceSaid) × (IsOnset zone j s q × ((i < j) × (offset ≡ q.offset_to)))))
+
 -- an onset not after t is greater than all of the observances with an offset
 pub record IsOverridden (zone : List ObservanceSaid) (t offset : ℤ) : Type 0 where
   pub place : ℕ
