@@ -42,8 +42,18 @@ pub fn is_called(name: &[u8], other: &[u8]) -> bool
     name.eq_ignore_ascii_case(other)
 }
 
-/// What a property is called.
+/// What a property is called. An extension is not looked for among the names that are read: its name begins with an X (RFC 5545, section 3.8.8.2).
 pub fn name_of(name: &[u8]) -> Name
+    ensures { result ≡ name_of (map upper name.now) }
+{
+    match name {
+        [b'X' | b'x', ..] => Name::Other,
+        _ => known_name_of(name),
+    }
+}
+
+/// What a property is called that is no extension.
+fn known_name_of(name: &[u8]) -> Name
     ensures { result ≡ name_of (map upper name.now) }
 {
     if is_called(name, b"BEGIN") {
