@@ -12,6 +12,18 @@ pub const SEMICOLON: u8 = b';';
 
 pub const EQUALS: u8 = b'=';
 
+/// For each byte where it is allowed: 3 in a name and in each value of a parameter, 2 in each value, 1 in a quoted value, and 0 in none of them.
+const ALLOWED: [u8; 256] = [
+    0, 0, 0, 0, 0, 0, 0, 0, 0, 2, 0, 0, 0, 0, 0, 0, 0, 0, 0, 0, 0, 0, 0, 0, 0, 0, 0, 0, 0, 0, 0, 0,
+    2, 2, 0, 2, 2, 2, 2, 2, 2, 2, 2, 2, 1, 3, 2, 2, 3, 3, 3, 3, 3, 3, 3, 3, 3, 3, 1, 1, 2, 2, 2, 2,
+    2, 3, 3, 3, 3, 3, 3, 3, 3, 3, 3, 3, 3, 3, 3, 3, 3, 3, 3, 3, 3, 3, 3, 3, 3, 3, 3, 2, 2, 2, 2, 3,
+    2, 3, 3, 3, 3, 3, 3, 3, 3, 3, 3, 3, 3, 3, 3, 3, 3, 3, 3, 3, 3, 3, 3, 3, 3, 3, 3, 2, 2, 2, 2, 0,
+    2, 2, 2, 2, 2, 2, 2, 2, 2, 2, 2, 2, 2, 2, 2, 2, 2, 2, 2, 2, 2, 2, 2, 2, 2, 2, 2, 2, 2, 2, 2, 2,
+    2, 2, 2, 2, 2, 2, 2, 2, 2, 2, 2, 2, 2, 2, 2, 2, 2, 2, 2, 2, 2, 2, 2, 2, 2, 2, 2, 2, 2, 2, 2, 2,
+    2, 2, 2, 2, 2, 2, 2, 2, 2, 2, 2, 2, 2, 2, 2, 2, 2, 2, 2, 2, 2, 2, 2, 2, 2, 2, 2, 2, 2, 2, 2, 2,
+    2, 2, 2, 2, 2, 2, 2, 2, 2, 2, 2, 2, 2, 2, 2, 2, 2, 2, 2, 2, 2, 2, 2, 2, 2, 2, 2, 2, 2, 2, 2, 2,
+];
+
 /// Whether a line that begins with the byte continues the line before it: SPACE or HTAB.
 pub fn is_blank(b: u8) -> bool
     ensures { result ≡ is_blank b }
@@ -23,25 +35,21 @@ pub fn is_blank(b: u8) -> bool
 pub fn is_name_byte(b: u8) -> bool
     ensures { result ≡ is_name_byte b }
 {
-    b.is_ascii_alphabetic() || matches!(b, b'0'..=b'9' | b'-' | b'_')
+    ALLOWED[b as usize] == 3
 }
 
 /// Whether a quoted value of a parameter may contain the byte.
 pub fn is_quoted_byte(b: u8) -> bool
     ensures { result ≡ is_quoted_byte b }
 {
-    match b {
-        b'"' | 127 => false,
-        b'\t' => true,
-        _ => b > 31,
-    }
+    ALLOWED[b as usize] >= 1
 }
 
 /// Whether an unquoted value of a parameter may contain the byte.
 pub fn is_plain_byte(b: u8) -> bool
     ensures { result ≡ is_plain_byte b }
 {
-    is_quoted_byte(b) && !matches!(b, b';' | b':' | b',')
+    ALLOWED[b as usize] >= 2
 }
 
 // These three are never inlined: the loop over the lines of a file has too few registers for their loops.
