@@ -8,6 +8,7 @@ use Rattle.ics_text.specs.ScanSteps.{colon_from}
 use Rattle.ics_text.specs.Inner.Runs.{colon_behind, past}
 use Rattle.ics_text.proofs.BytesLemmas.{quoted-no_quote}
 use Rattle.std.proofs.lemmas.Bool.{cases_Bool}
+use Rattle.std.proofs.lemmas.Bool.Decides.{nat_tests}
 
 moved_first : (i : ℕ) (o : Option ℕ) → option_map (λ n. n + 1) (option_map (λ n. n + i) o) ≡ option_map (λ n. n + suc i) o
 moved_first i None = refl
@@ -42,6 +43,11 @@ in_name = record {
     | inr e ↦ rw e (elim (cases_Bool (b == 58)) [ inl k ↦ rw k refl | inr k ↦ rw k refl ])
   ]);
 }
+
+-- the colon of a line without parameters
+pub colon_first : (text : List ℕ) → begins (λ b. b == 58) text ≡ true → colon_behind text ≡ Some 0
+colon_first [] h = cc
+colon_first (b ∷ bs) h = let is : b ≡ 58 = grind (arith, nat_tests) in rw is refl
 
 -- the name of a parameter and the sign behind it
 abbrev pub equals_first : List ℕ → Option ℕ

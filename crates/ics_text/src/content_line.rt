@@ -22,6 +22,15 @@ pub fn content<'a>(line: &'a [u8]) -> Result<Content<'a>, BadLine>
         return Err(BadLine);
     }
     let (name, behind) = line.split_at(len);
+    // most lines have no parameters
+    if let [COLON, value @ ..] = behind {
+        let params = &behind[..0];
+        return Ok(Content {
+            name,
+            params,
+            value,
+        });
+    }
     let Some(colon) = colon_of(behind) else {
         return Err(BadLine);
     };
