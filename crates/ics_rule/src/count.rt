@@ -40,7 +40,8 @@ impl Cursor {
         let parts = search.parts;
         match self.held {
             None => {
-                let period = self.look_at(parts, number, 0);
+                self.look_at(parts, number, 0);
+                let period = self.held?;
                 let through = period.taken_before(&parts.positions, search.start + 1);
                 self.limit = count as u64 - 1 + through;
                 Some(period)
@@ -53,7 +54,8 @@ impl Cursor {
                 if self.counted + before >= self.limit {
                     return None;
                 }
-                Some(self.look_at(parts, number, self.counted + before))
+                self.look_at(parts, number, self.counted + before);
+                self.held
             }
         }
     }

@@ -15,7 +15,7 @@ use crate::never::{chooses_none, has_no_time};
 use crate::pass::next_open_step;
 use crate::rounds::last_to_look_at;
 use crate::search::Search;
-use ics_period::{EffectiveRule, RecurrencePeriod, period_of};
+use ics_period::{EffectiveRule, period_of};
 
 /// The least number from `own` on that is `first` or later by a multiple of the interval.
 pub(crate) fn next_step(first: u64, interval: u32, own: u64) -> u64
@@ -44,22 +44,20 @@ pub(crate) fn is_vain(search: &Search<'_>, looks: u64) -> bool
 
 impl Cursor {
     /// Turns to the period with a number. Looks at it unless it is the one held.
-    fn turn_freely(&mut self, parts: &EffectiveRule, number: u64) -> RecurrencePeriod
+    fn turn_freely(&mut self, parts: &EffectiveRule, number: u64)
         requires low { period_in parts.now 0 ≤ number }
         requires reach { first_local parts.now.frequency (monday_zero parts.now.week_start) number ≤ rules_end }
         requires held { MatchOption self.old.held (Unit {0}) (λ p. IsPeriodOf parts.now p × (p.number ≤ number)) }
         requires room { self.old.steps < 2 ^ 63 }
-        ensures product { IsPeriodOf parts.now result }
-        ensures number { result.number ≡ number }
-        ensures held { self.new.held ≡ Some result }
+        ensures held { MatchOption self.new.held ⊥ (λ p. IsPeriodOf parts.now p × (p.number ≡ number)) }
         ensures looks { LooksAt number self.old self.new }
     {
         if let Some(period) = &self.held {
             if period.number() == number {
-                return *period;
+                return;
             }
         }
-        self.look_at(parts, number, 0)
+        self.look_at(parts, number, 0);
     }
 
     /// The next local from the place on that the rule chooses. It is searched for in the periods up to that of the last before `stop`.
@@ -80,7 +78,10 @@ impl Cursor {
         let mut number = next_step(search.first, parts.interval, own);
         let mut looks: u64 = 0;
         while number <= end {
-            let period = self.turn_freely(parts, number);
+            self.turn_freely(parts, number);
+            let Some(period) = &self.held else {
+                return None;
+            };
             if let Some(n) = period.next_taken(&parts.positions, self.place) {
                 return Some(n);
             }
@@ -88,7 +89,7 @@ impl Cursor {
             if is_vain(search, looks) {
                 return None;
             }
-            number = next_open_step(search, &period, last, stop);
+            number = next_open_step(search, period, last, stop);
         }
         None
     }

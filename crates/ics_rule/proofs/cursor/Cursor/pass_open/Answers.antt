@@ -69,4 +69,4 @@ look_at-requires-clause-room c =
 
 pub returns : goal.returns
 returns c = passed_on (c.turn_through.ensures.counted c.if-not-turn_through.false) (ends (goal.at.returns c).After-chosen_in_open) c.requires.cursor.after
-    c.requires.cursor.own.inside c.look_at.ensures.cursor (c.look_at.ensures.product, c.look_at.ensures.number)
+    c.requires.cursor.own.inside c.look_at.ensures.1.0 c.look_at.ensures.1.1

@@ -52,7 +52,7 @@ look_at-requires-clause-room c =
 
 pub returns : goal.returns
 returns c = passed_on (c.turn_through.ensures.counted c.if-not-turn_through.false) (ends (goal.at.returns c).Else-not-turn_through).1 c.requires.cursor.after
-    c.requires.cursor.own.inside c.look_at.ensures.cursor (c.look_at.ensures.product, c.look_at.ensures.number)
+    c.requires.cursor.own.inside c.look_at.ensures.1.0 c.look_at.ensures.1.1
 
 pub nonzero_div-rounds : goal.nonzero_div-rounds
 nonzero_div-rounds c = let is = c.in-Some.ensures c.args.search.now.start in let some = is.some in omega (arith, some)

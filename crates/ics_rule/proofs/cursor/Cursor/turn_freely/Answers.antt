@@ -9,11 +9,11 @@ pub returns-clause-looks : goal.returns-clause-looks
 returns-clause-looks c = elim c.match-self.branch [
   | in-Some+else-number w ↦
       let own = rw w.in-Some.is at c.requires.held in
-      looks_once 0 c.args.self.now c.look_at.result (grind arith)
-      (c.look_at.ensures.cursor ∙ ap (λ (s : Cursor). after_look s c.look_at.result 0) w.self-is) c.look_at.ensures.number
+      looks_once 0 c.args.self.now c.look_at.ensures.0 (grind arith)
+      (c.look_at.ensures.1.0 ∙ ap (λ (s : Cursor). after_look s c.look_at.ensures.0 0) w.self-is) c.look_at.ensures.1.1.1
   | in_default w ↦
-      looks_once 0 c.args.self.now c.look_at.result (grind arith)
-      (c.look_at.ensures.cursor ∙ ap (λ (s : Cursor). after_look s c.look_at.result 0) w.self-is) c.look_at.ensures.number
+      looks_once 0 c.args.self.now c.look_at.ensures.0 (grind arith)
+      (c.look_at.ensures.1.0 ∙ ap (λ (s : Cursor). after_look s c.look_at.ensures.0 0) w.self-is) c.look_at.ensures.1.1.1
 ]
 
 pub returns-then-number-clause-looks : goal.returns-then-number-clause-looks

@@ -2,7 +2,7 @@ use Rattle.std.proofs.Common.{◌≡◌, ◌∙◌, ℕ, ◌-◌, ◌≤◌, Som
 use Rattle.ics_fields.specs.Sets.{IsLeastFrom}
 use Rattle.ics_fields.specs.Ordinals.{lists_none_wide}
 use Rattle.ics_period.specs.Candidates.{period_in}
-use Rattle.ics_period.specs.RecurrencePeriods.{is_taken}
+use Rattle.ics_period.specs.RecurrencePeriods.{is_taken, IsPeriodOf}
 use Rattle.ics_rule.specs.Inner.Searches.{is_chosen_within}
 use Rattle.ics_rule.proofs.ChosenLemmas.{taken_within}
 use Rattle.ics_rule.proofs.CursorLemmas.{next_same, within_facts, walk_begins, walk_goes_on, walk_ended, walk_finds, walk_found, walk_stopped, walk_reach}
@@ -10,54 +10,56 @@ use Rattle.ics_rule.proofs.CountLemmas.{step_low}
 use Rattle.ics_rule.proofs.PassedLemmas.{walk_rounds_end}
 use Rattle.ics_rule.proofs.NeverLemmas.{none_wanted, none_walked}
 use Rattle.ics_rule.proofs.cursor.Cursor.walk_freely.Goals as goal
-use Rattle.ics_rule.proofs.cursor.Cursor.walk_freely.Goals.{After-turn_freely-period}
+use Rattle.ics_rule.proofs.cursor.Cursor.walk_freely.Goals.{After-turn_freely, In-Some}
 
 pub loop-number-init : goal.loop-number-init
 loop-number-init c = walk_begins c.args.search.now.interval
     (rw (c.args.search.now.of_start, c.period_of-own.ensures.value) at c.next_step-number.ensures) c.requires.place c.requires.own
 
-pub turn_freely-period-requires-clause-low : goal.turn_freely-period-requires-clause-low
-turn_freely-period-requires-clause-low c = step_low c.args.search.now.parts.now c.args.search.now.start c.loop-number.number c.loop-number.invariant.step
+pub turn_freely-requires-clause-low : goal.turn_freely-requires-clause-low
+turn_freely-requires-clause-low c = step_low c.args.search.now.parts.now c.args.search.now.start c.loop-number.number c.loop-number.invariant.step
 
-pub turn_freely-period-requires-clause-reach : goal.turn_freely-period-requires-clause-reach
-turn_freely-period-requires-clause-reach c = grind (arith, walk_reach)
+pub turn_freely-requires-clause-reach : goal.turn_freely-requires-clause-reach
+turn_freely-requires-clause-reach c = grind (arith, walk_reach)
 
--- what the period turned to takes is chosen within it
-within : (c : After-turn_freely-period) → (n : ℕ) → is_taken c.args.search.now.parts.now.positions
-    (lists_none_wide c.args.search.now.parts.now.positions) c.turn_freely-period.result n
+-- the period turned to is the one with the number
+own : (c : In-Some) → IsPeriodOf c.args.search.now.parts.now c.in-Some.period × (c.in-Some.period.number ≡ c.loop-number.number)
+own c = rw c.in-Some.is at c.turn_freely.ensures.held
+
+-- what it takes is chosen within it
+within : (c : In-Some) → (n : ℕ) → is_taken c.args.search.now.parts.now.positions
+    (lists_none_wide c.args.search.now.parts.now.positions) c.in-Some.period n
     ≡ is_chosen_within c.args.search.now.parts.now c.args.search.now.start c.loop-number.number n
-within c = taken_within c.args.search.now.start c.turn_freely-period.ensures.product c.turn_freely-period.ensures.number c.loop-number.invariant.step
+within c = taken_within c.args.search.now.start (own c).0 (own c).1 c.loop-number.invariant.step
 
-top : (c : After-turn_freely-period) → c.loop-number.number ≤ period_in c.args.search.now.parts.now (c.args.stop - 1)
+top : (c : After-turn_freely) → c.loop-number.number ≤ period_in c.args.search.now.parts.now (c.args.stop - 1)
 top c = omega (arith, c.loop-number-test.true, c.last_to_look_at-end.ensures.high, c.period_of-last.ensures.value)
 
-pub returns-in-Some-clause-next : goal.returns-in-Some-clause-next
-returns-in-Some-clause-next c =
-    let own = next_same _ _ c.turn_freely-period.new.self.place (Some c.in-Some.n) (within (goal.at.returns-in-Some-clause-next c).After-turn_freely-period)
-    c.in-Some.ensures.next in
-    let here = within_facts c.args.search.now.parts.now c.args.search.now.start c.loop-number.number c.in-Some.n (IsLeastFrom.passes own) in
-    walk_finds c.loop-number.invariant (c.turn_freely-period.ensures.looks.place ∙ c.loop-number.invariant.moved.place) own here.1
+pub returns-in-Some-next_taken-clause-next : goal.returns-in-Some-next_taken-clause-next
+returns-in-Some-next_taken-clause-next c =
+    let is = next_same _ _ c.turn_freely.new.self.place (Some c.in-Some-next_taken.n) (within (goal.at.returns-in-Some-next_taken-clause-next c).In-Some)
+    c.in-Some-next_taken.ensures.next in
+    let here = within_facts c.args.search.now.parts.now c.args.search.now.start c.loop-number.number c.in-Some-next_taken.n (IsLeastFrom.passes is) in
+    walk_finds c.loop-number.invariant (c.turn_freely.ensures.looks.place ∙ c.loop-number.invariant.moved.place) is here.1
 
-pub returns-in-Some-clause-walked : goal.returns-in-Some-clause-walked
-returns-in-Some-clause-walked c =
-    let turned = c.turn_freely-period.ensures in
-    let own = next_same _ _ c.turn_freely-period.new.self.place (Some c.in-Some.n) (within (goal.at.returns-in-Some-clause-walked c).After-turn_freely-period)
-    c.in-Some.ensures.next in
-    let here = within_facts c.args.search.now.parts.now c.args.search.now.start c.loop-number.number c.in-Some.n (IsLeastFrom.passes own) in
-    walk_found c.loop-number.invariant turned.looks turned.held turned.product turned.number tt
-    (top (goal.at.returns-in-Some-clause-walked c).After-turn_freely-period) here.0
+pub returns-in-Some-next_taken-clause-walked : goal.returns-in-Some-next_taken-clause-walked
+returns-in-Some-next_taken-clause-walked c =
+    let at = goal.at.returns-in-Some-next_taken-clause-walked c in
+    let is = next_same _ _ c.turn_freely.new.self.place (Some c.in-Some-next_taken.n) (within at.In-Some) c.in-Some-next_taken.ensures.next in
+    let here = within_facts c.args.search.now.parts.now c.args.search.now.start c.loop-number.number c.in-Some-next_taken.n (IsLeastFrom.passes is) in
+    walk_found c.loop-number.invariant c.turn_freely.ensures.looks c.in-Some.is (own at.In-Some).0 (own at.In-Some).1 tt (top at.After-turn_freely) here.0
 
 pub next_open_step-number-requires-clause-step : goal.next_open_step-number-requires-clause-step
 next_open_step-number-requires-clause-step c =
-    rw (c.turn_freely-period.ensures.number, c.args.search.now.of_start) c.loop-number.invariant.step
+    rw ((own (goal.at.next_open_step-number-requires-clause-step c).In-Some).1, c.args.search.now.of_start) c.loop-number.invariant.step
 
 pub loop-number-preserved : goal.loop-number-preserved
 loop-number-preserved c =
-    let at = (goal.at.loop-number-preserved c).After-turn_freely-period in
-    let turned = c.turn_freely-period.ensures in
-    walk_goes_on c.loop-number.invariant turned.looks turned.held turned.product turned.number tt (top at)
-    (λ n l. sym (within at n) ∙ c.in_default.ensures.next n (omega (arith, l, turned.looks.place, c.loop-number.invariant.moved.place)))
-    (rw (c.args.search.now.of_start, turned.number) at c.next_open_step-number.ensures)
+    let at = goal.at.loop-number-preserved c in
+    let looks = c.turn_freely.ensures.looks in
+    walk_goes_on c.loop-number.invariant looks c.in-Some.is (own at.In-Some).0 (own at.In-Some).1 tt (top at.After-turn_freely)
+    (λ n l. sym (within at.In-Some n) ∙ c.in_default-next_taken.ensures.next n (omega (arith, l, looks.place, c.loop-number.invariant.moved.place)))
+    (rw (c.args.search.now.of_start, (own at.In-Some).1) at c.next_open_step-number.ensures)
 
 pub returns-clause-next : goal.returns-clause-next
 returns-clause-next c = walk_rounds_end {begin = c.max.result} {end = c.last_to_look_at-end.result} c.loop-number.invariant c.requires.stop
@@ -81,6 +83,5 @@ returns-then-is_vain-clause-next c =
 
 pub returns-then-is_vain-clause-walked : goal.returns-then-is_vain-clause-walked
 returns-then-is_vain-clause-walked c =
-    let turned = c.turn_freely-period.ensures in
-    walk_stopped c.loop-number.invariant turned.looks turned.held turned.product turned.number tt
-    (top (goal.at.returns-then-is_vain-clause-walked c).After-turn_freely-period)
+    let at = goal.at.returns-then-is_vain-clause-walked c in
+    walk_stopped c.loop-number.invariant c.turn_freely.ensures.looks c.in-Some.is (own at.In-Some).0 (own at.In-Some).1 tt (top at.After-turn_freely)
