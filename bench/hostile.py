@@ -194,6 +194,8 @@ ROWS = [
     ('8 in no week of their months', lambda: rules(8, 'FREQ=DAILY;' + LATE), ['0001-01-02', '9700-01-01'], 1, 32),
     ('80 in no week of their months', lambda: rules(80, 'FREQ=DAILY;' + LATE), ['0001-01-02', '9700-01-01'], 8, 32),
     ('one in 1,009 days, COUNT, each day', lambda: rules(1, SELDOM.replace('4294967295', '9')), ['2024-01-01', '366d', '--every-day'], 1, 32),
+    ('82 on leap days in steps of 59 seconds, COUNT, in 9700',
+     lambda: rules(82, 'FREQ=SECONDLY;INTERVAL=59;BYYEARDAY=366;BYHOUR=1;COUNT=999999'), ['9700-01-01', '1d', '--limit', '1'], 8, 32),
     ('8 observances that never begin', lambda: in_zone(ruled(8, 'FREQ=DAILY;' + LATE), '20240101T120000', FAR), DAY, 1, 32),
     ('an observance with COUNT', lambda: in_zone(ruled(1, SELDOM), '20240701T120000'), DAY, 1, 32),
     ('the same in 9700', lambda: in_zone(ruled(1, SELDOM), '97000701T120000'), ['9700-07-01', '1d'], 1, 32),

@@ -18,6 +18,7 @@ mod EachLemmas
 mod NeverLemmas
 mod MostLemmas
 mod OpenLemmas
+mod RestLemmas
 mod TableSteps
 mod TableExamples
 mod NthLemmas

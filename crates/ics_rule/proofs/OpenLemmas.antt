@@ -121,7 +121,7 @@ module _ {q : EffectiveRule} {first from before : ℕ} (run : IsDayRun q first f
   placed_none = sym (count-none (before * d) (placed q first from 0) (λ p l. grind (arith, nat_tests)))
 
   -- a step some runs of days later has the same clock
-  step_later : (x t : ℕ) → first ≤ x → timely (x + q.interval * t * d) ≡ timely x
+  pub step_later : (x t : ℕ) → first ≤ x → timely (x + q.interval * t * d) ≡ timely x
   step_later x t low =
       let fine = run.fine in let unit = run.unit in grind (arith, nat_tests, add-mul, day_seconds, mul_assoc, own_day, step_repeats)
 

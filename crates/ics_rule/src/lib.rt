@@ -3,6 +3,7 @@
 
 mod count;
 mod cursor;
+mod each_day;
 mod given;
 mod hour;
 mod laws;

@@ -8,6 +8,7 @@ ghost use Rattle.ics_rule.specs.Inner.OpenPeriods.{per_day, lets_own, is_timely,
 ghost use Rattle.ics_fields.specs.Days.{days_before_year};
 
 use crate::cursor::Cursor;
+use crate::each_day::{lets_few, open_of_each};
 use crate::never::size_of_open;
 use crate::pass::days_of_closed_month;
 use crate::rounds::{calendar_round, seconds_of};
@@ -29,7 +30,7 @@ fn lets_own(parts: &EffectiveRule, n: u64) -> bool
 }
 
 /// How many steps from one period on and before another have an hour, minute and second that are allowed, whatever their days are.
-fn steps_let_in(search: &Search<'_>, from: u64, before: u64) -> u64
+pub(crate) fn steps_let_in(search: &Search<'_>, from: u64, before: u64) -> u64
     requires order { from ≤ before }
     requires before { before < 2 ^ 40 }
     requires unit { seconds_of search.now.parts.now.frequency ≤ 86400 }
@@ -49,7 +50,7 @@ fn steps_let_in(search: &Search<'_>, from: u64, before: u64) -> u64
 }
 
 /// Steps of fewer days than this fall into each month.
-const A_SHORT_MONTH: u32 = 28;
+pub(crate) const A_SHORT_MONTH: u32 = 28;
 
 /// How many days are allowed, of those in steps of the interval from one on and before another. Where steps are short, only such days of a year
 /// are tested as a part lists, and else a month that BYMONTH does not allow is left at its end.
@@ -85,7 +86,7 @@ fn days_let_in(search: &Search<'_>, from: u64, before: u64) -> u64
 }
 
 /// How many periods of whole days are allowed. Steps have the same times on days that are a multiple of the interval apart.
-fn open_of_days(search: &Search<'_>, from: u64, before: u64) -> u64
+fn open_of_rests(search: &Search<'_>, from: u64, before: u64) -> u64
     requires fine { 0 < seconds_of search.now.parts.now.frequency }
     requires unit { seconds_of search.now.parts.now.frequency ≤ 86400 }
     requires first { search.now.first < from * per_day search.now.parts.now.frequency }
@@ -104,6 +105,23 @@ fn open_of_days(search: &Search<'_>, from: u64, before: u64) -> u64
         }
     }
     total
+}
+
+/// How many periods of whole days are allowed, by a look at each day that is allowed, if they are few.
+fn open_of_days(search: &Search<'_>, from: u64, before: u64) -> u64
+    requires fine { 0 < seconds_of search.now.parts.now.frequency }
+    requires unit { seconds_of search.now.parts.now.frequency ≤ 86400 }
+    requires first { search.now.first < from * per_day search.now.parts.now.frequency }
+    requires order { from ≤ before }
+    requires before { before ≤ days_before_year 9_801 + 1 }
+    ensures { result + count (from * per_day search.now.parts.now.frequency) (is_open_period search.now.parts.now search.now.first)
+        ≡ count (before * per_day search.now.parts.now.frequency) (is_open_period search.now.parts.now search.now.first) }
+{
+    if lets_few(search, from) {
+        open_of_each(search, from, before)
+    } else {
+        open_of_rests(search, from, before)
+    }
 }
 
 /// How many periods of one day are allowed, from one on and before another.

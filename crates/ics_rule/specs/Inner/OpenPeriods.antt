@@ -1,5 +1,5 @@
 -- Periods of a day or less. Those that a rule allows all have the same number of locals.
-use Rattle.std.specs.Prelude.{◌≡◌, ℕ, ◌*◌, ◌/◌, ◌%◌, ◌<◌, Bool, not, true, false, ◌&&◌, ◌||◌, if◌then◌else◌}
+use Rattle.std.specs.Prelude.{◌≡◌, ℕ, List, length, slice_index_or, ◌+◌, ◌≤◌, ◌*◌, ◌/◌, ◌%◌, ◌<◌, Bool, not, true, false, ◌&&◌, ◌||◌, if◌then◌else◌}
 use Rattle.ics_fields.specs.declared.frequency.Frequency.{Frequency}
 use Rattle.ics_fields.specs.declared.frequency.Frequency.TheVariants.{Secondly, Minutely, Hourly, Daily, Weekly, Monthly, Yearly}
 use Rattle.ics_fields.specs.Ordinals.{lists_none_wide}
@@ -37,6 +37,15 @@ lets_within f q n =
 -- a period is a multiple of the interval after the first, with a time that is allowed
 abbrev pub is_timely : EffectiveRule → ℕ → ℕ → Bool
 is_timely q first p = is_stepped first q.interval p && lets_own q.frequency q (p * seconds_of q.frequency)
+
+-- how many such periods a day has
+abbrev pub timely_on : EffectiveRule → ℕ → ℕ → ℕ
+timely_on q first day = count (per_day q.frequency) (λ k. is_timely q first (day * per_day q.frequency + k))
+
+-- the numbers of those of each day from one on, so many days as the interval has, if these are few
+abbrev pub HasRests : EffectiveRule → ℕ → ℕ → List ℕ → Type 0
+HasRests q first from steps =
+    (length steps ≡ 4_096) × (q.interval ≤ 4_096 → (k : ℕ) → k < q.interval → slice_index_or steps k 0 ≡ timely_on q first (from + k))
 
 -- a period is a multiple of the interval after the first, and the rule allows a local of it
 abbrev pub is_open_period : EffectiveRule → ℕ → ℕ → Bool

@@ -51,7 +51,8 @@ returns-in_ok-period-in-None-clause-looks c =
 
 pub returns-else-self-before-clause-turned : goal.returns-else-self-before-clause-turned
 returns-else-self-before-clause-turned c = rw c.look_at-in-Some.ensures.1.0 (turned_on c.args.self.now
-    (left (goal.at.returns-else-self-before-clause-turned c).After-taken_before-before) c.requires.step c.look_at-in-Some.ensures.1.1.0 c.look_at-in-Some.ensures.1.1.1)
+    (left (goal.at.returns-else-self-before-clause-turned c).After-taken_before-before) c.requires.step
+    c.look_at-in-Some.ensures.1.1.0 c.look_at-in-Some.ensures.1.1.1)
 
 pub returns-else-self-before-clause-looks : goal.returns-else-self-before-clause-looks
 returns-else-self-before-clause-looks c =

@@ -5,8 +5,8 @@ use Rattle.ics_period.specs.Ranks.{count}
 use Rattle.ics_rule.specs.Inner.OpenPeriods.{per_day}
 use Rattle.ics_period.proofs.Counts.{count_most}
 use Rattle.ics_rule.proofs.OpenLemmas.{IsDayRun, day_some, placed, placed_none, placed_more, placed_all}
-use Rattle.ics_rule.proofs.open_periods.open_of_days.Goals as goal
-use Rattle.ics_rule.proofs.open_periods.open_of_days.Goals.{then-steps-gt0, else-steps-gt0, After-min-j-end, After-days_let_in}
+use Rattle.ics_rule.proofs.open_periods.open_of_rests.Goals as goal
+use Rattle.ics_rule.proofs.open_periods.open_of_rests.Goals.{then-steps-gt0, else-steps-gt0, After-min-j-end, After-days_let_in}
 
 run : (c : After-min-j-end) → IsDayRun c.args.search.now.parts.now c.args.search.now.first c.args.from c.args.before
 run c = record { fine = c.requires.fine; unit = c.requires.unit; some = c.args.search.now.interval; later = c.requires.first; order = c.requires.order }

@@ -2,7 +2,7 @@ use Rattle.std.proofs.Common.{◌≡◌, ◌*◌}
 use Rattle.ics_period.specs.Ranks.{count}
 use Rattle.ics_rule.specs.Inner.OpenPeriods.{per_day}
 use Rattle.ics_rule.proofs.OpenLemmas.{placed}
-use Rattle.ics_rule.proofs.open_periods.open_of_days.Given as goal
+use Rattle.ics_rule.proofs.open_periods.open_of_rests.Given as goal
 
 -- the days with places before the next are counted
 abbrev pub invariant-loop-j : goal.invariant-loop-j

@@ -1,0 +1,80 @@
+-- The periods that a rule lets in, counted day by day.
+use Rattle.std.proofs.Common.{◌≡◌, ◌∙◌, ℕ, ◌+◌, ◌-◌, ◌*◌, ◌/◌, ◌%◌, ◌<◌, ◌≤◌, true, false, min, sym, ap, arith}
+use Rattle.std.proofs.lemmas.Nat.{div-add-mod', div-mul-add, le-div, div_below}
+use Rattle.std.proofs.Math.Nat.{add-mul, mul_comm, mul-le-mul_right}
+use Rattle.ics_period.specs.declared.effective_rule.EffectiveRule.{EffectiveRule}
+use Rattle.ics_period.specs.Candidates.{lets_date}
+use Rattle.ics_period.specs.Ranks.{count}
+use Rattle.ics_rule.specs.Inner.Rounds.{seconds_of}
+use Rattle.ics_rule.specs.Inner.OpenPeriods.{per_day, is_timely, timely_on, is_open_period}
+use Rattle.ics_period.proofs.Counts.{count-same, count-add, count_most}
+use Rattle.ics_period.proofs.RankLemmas.{count_flat}
+use Rattle.ics_rule.proofs.OpenLemmas.{IsDayRun, day_some, step_later}
+
+module _ (q : EffectiveRule) (first : ℕ) where
+  abbrev d : ℕ
+  d = per_day q.frequency
+
+  some_periods : 1 ≤ d
+  some_periods = (day_some q.frequency).0
+
+  next_day : (day : ℕ) → (day + 1) * d ≡ day * d + d
+  next_day day = omega arith
+
+  -- the steps of a day
+  pub steps_of_day : (day : ℕ) {steps : ℕ} → steps + count (day * d) (is_timely q first) ≡ count ((day + 1) * d) (is_timely q first)
+      → (steps ≡ timely_on q first day) × (steps ≤ 86_400)
+  steps_of_day day e =
+      let whole = ap (λ x. count x (is_timely q first)) (next_day day) ∙ count-add (day * d) d (is_timely q first) in
+      let most = count_most d (λ k. is_timely q first (day * d + k)) in
+      (omega (arith, e, whole), omega (arith, e, whole, most, (day_some q.frequency).1))
+
+  -- on an allowed day each is let in
+  day_more : (day : ℕ) → lets_date q day ≡ true
+      → count ((day + 1) * d) (is_open_period q first) ≡ count (day * d) (is_open_period q first) + timely_on q first day
+  day_more day is =
+      let whole = ap (λ x. count x (is_open_period q first)) (next_day day) ∙ count-add (day * d) d (is_open_period q first) in
+      let same = count-same d (λ k. is_open_period q first (day * d + k)) (λ k. is_timely q first (day * d + k)) (λ k l.
+      let at = div-mul-add day d k l in grind (arith, at, is)) in
+      omega (arith, whole, same)
+
+  -- and on other days none is
+  days_none : {from before : ℕ} → from ≤ before → ((e : ℕ) → from ≤ e → e < before → lets_date q e ≡ false)
+      → count (before * d) (is_open_period q first) ≡ count (from * d) (is_open_period q first)
+  days_none {from = from} {before = before} order none =
+      count_flat (from * d) (before * d) (is_open_period q first) (mul-le-mul_right d order)
+      (λ m l u. let out = none (m / d) (le-div from m d some_periods l) (div_below m d before some_periods u) in grind (arith, out))
+
+  -- a walk over days from one on, in which the periods of those before the next are counted
+  module _ (from before day total : ℕ) (inside : day < before)
+      (passed : total + count (from * d) (is_open_period q first) ≡ count (min day before * d) (is_open_period q first)) where
+    passed_here : total + count (from * d) (is_open_period q first) ≡ count (day * d) (is_open_period q first)
+    passed_here = let here : min day before ≡ day = omega (arith, inside) in rw here at passed
+
+    pub day_added : {new : ℕ} → lets_date q day ≡ true → new ≡ total + timely_on q first day
+        → new + count (from * d) (is_open_period q first) ≡ count (min (day + 1) before * d) (is_open_period q first)
+    day_added is e =
+        let next : min (day + 1) before ≡ day + 1 = omega (arith, inside) in
+        let more = day_more day is in let was = passed_here in rw next (omega (arith, e, was, more))
+
+    pub days_passed : (off : ℕ) → ((e : ℕ) → day ≤ e → e < day + off → lets_date q e ≡ false)
+        → total + count (from * d) (is_open_period q first) ≡ count (min (day + off) before * d) (is_open_period q first)
+    days_passed off none =
+        passed_here ∙ sym (days_none {from = day} {before = min (day + off) before} (omega (arith, inside)) (λ e l u. none e l (omega (arith, u))))
+
+  -- as many days later as the interval has, a day has as many steps
+  pub rest_same : (from day : ℕ) → 0 < seconds_of q.frequency → seconds_of q.frequency ≤ 86_400 → 1 ≤ q.interval → first < from * d → from ≤ day
+      → timely_on q first (from + (day - from) % q.interval) ≡ timely_on q first day
+  rest_same from day fine unit some later order =
+      let run : IsDayRun q first from day = record { fine = fine; unit = unit; some = some; later = later; order = order } in
+      let j = (day - from) % q.interval in
+      let t = (day - from) / q.interval in
+      count-same d (λ k. is_timely q first ((from + j) * d + k)) (λ k. is_timely q first (day * d + k)) (λ k l.
+      let days = div-add-mod' (day - from) q.interval in
+      let swap = mul_comm q.interval t in
+      let whole : day ≡ (from + j) + q.interval * t = omega (arith, days, swap, order) in
+      let wide = ap (λ x. x * d) whole in
+      let spread = add-mul (from + j) (q.interval * t) d in
+      let same : day * d + k ≡ (from + j) * d + k + q.interval * t * d = omega (arith, wide, spread) in
+      let low : first ≤ (from + j) * d + k = (let apart = add-mul from j d in omega (arith, later, apart)) in
+      sym (ap (is_timely q first) same ∙ step_later run ((from + j) * d + k) t low))

@@ -1,0 +1,139 @@
+//! How many periods shorter than a day a rule allows, where it allows few days: those of each such day are added.
+ghost use Rattle.std.specs.Prelude.{◌≡◌, ℕ, true, false, length, slice_index_or, ◌<◌, ◌≤◌, ◌+◌, ◌*◌};
+ghost use Rattle.ics_fields.specs.Days.{days_before_year};
+ghost use Rattle.ics_period.specs.Candidates.{lets_date};
+ghost use Rattle.ics_period.specs.NearDays.{AreNear};
+ghost use Rattle.ics_period.specs.Ranks.{count};
+ghost use Rattle.ics_rule.specs.Inner.Rounds.{seconds_of};
+ghost use Rattle.ics_rule.specs.Inner.OpenPeriods.{per_day, timely_on, is_open_period, HasRests};
+
+use crate::open_periods::{A_SHORT_MONTH, steps_let_in};
+use crate::pass::days_of_closed_month;
+use crate::rounds::seconds_of;
+use crate::search::Search;
+use ics_period::{EffectiveRule, NearDays, lets_date, lists_days, names_weekdays_alone};
+
+/// If the interval is no longer, the steps of so many days that follow each other are counted once: those of a day are as many as they were so
+/// many days before as the interval has.
+const RESTS: usize = 4_096;
+
+const A_YEAR: u64 = 366;
+
+/// Whether few days of a year are allowed, so that a look at each, with its steps, takes less than one at all days. Short steps are not asked for.
+pub(crate) fn lets_few(search: &Search<'_>, from: u64) -> bool
+    requires { from ≤ days_before_year 9_801 + 1 }
+{
+    let parts = search.parts;
+    let unit = seconds_of(parts.frequency);
+    if parts.interval < A_SHORT_MONTH
+        || unit == 0
+        || unit >= 86_400
+        || names_weekdays_alone(parts)
+    {
+        return false;
+    }
+    let mut steps = 0;
+    if parts.interval as usize > RESTS {
+        steps = 86_400 / unit / parts.interval as u64;
+    }
+    let mut days = 0;
+    for day in from..from + A_YEAR {
+        if lets_date(parts, day as u32) {
+            days += 1;
+        }
+    }
+    days * (steps + 4) <= A_YEAR * 3
+}
+
+/// How many steps of a day have an hour, minute and second that are allowed, whatever the day is.
+fn steps_on(search: &Search<'_>, day: u64) -> u64
+    requires fine { 0 < seconds_of search.now.parts.now.frequency }
+    requires unit { seconds_of search.now.parts.now.frequency ≤ 86400 }
+    requires day { day ≤ days_before_year 9_801 + 1 + 4096 }
+    ensures value { result ≡ timely_on search.now.parts.now search.now.first day }
+    ensures bound { result ≤ 86400 }
+{
+    let per_day = 86_400 / seconds_of(search.parts.frequency);
+    steps_let_in(search, day * per_day, (day + 1) * per_day)
+}
+
+/// The same of as many days as the interval has, from one on. They are not counted if these are many.
+fn steps_by_rest(search: &Search<'_>, from: u64) -> [u32; RESTS]
+    requires fine { 0 < seconds_of search.now.parts.now.frequency }
+    requires unit { seconds_of search.now.parts.now.frequency ≤ 86400 }
+    requires from { from ≤ days_before_year 9_801 + 1 }
+    ensures { HasRests search.now.parts.now search.now.first from result }
+{
+    let mut steps = [0; RESTS];
+    let interval = search.parts.interval as usize;
+    if interval > RESTS {
+        return steps;
+    }
+    for j in 0..interval {
+        steps[j] = steps_on(search, from + j as u64) as u32;
+    }
+    steps
+}
+
+/// The same of a day, by those of the days from one on.
+fn steps_at(search: &Search<'_>, steps: &[u32], from: u64, day: u64) -> u64
+    requires fine { 0 < seconds_of search.now.parts.now.frequency }
+    requires unit { seconds_of search.now.parts.now.frequency ≤ 86400 }
+    requires first { search.now.first < from * per_day search.now.parts.now.frequency }
+    requires order { from ≤ day }
+    requires day { day ≤ days_before_year 9_801 + 1 }
+    requires steps { HasRests search.now.parts.now search.now.first from steps.now }
+    ensures { result ≡ timely_on search.now.parts.now search.now.first day }
+{
+    let interval = search.parts.interval as u64;
+    if interval > RESTS as u64 {
+        steps_on(search, day)
+    } else {
+        steps[((day - from) % interval) as usize] as u64
+    }
+}
+
+/// How many days from one on are not allowed, as far as one look tells. None is left if the first is allowed.
+fn days_off(parts: &EffectiveRule, near: &NearDays, day: u32) -> u32
+    requires day { day ≤ days_before_year 9_801 }
+    requires near { AreNear parts.now near.now }
+    requires high { day < near.now.end }
+    ensures none { (e : ℕ) → day ≤ e → e < day + result → lets_date parts.now e ≡ false }
+    ensures some { result ≡ 0 → lets_date parts.now day ≡ true }
+    ensures most { result ≤ 384 }
+{
+    let out = near.days_out(day);
+    if out > 0 {
+        out
+    } else if lets_date(parts, day) {
+        0
+    } else {
+        days_of_closed_month(parts, day).max(1)
+    }
+}
+
+/// How many periods of whole days are allowed, by a look at each day that may be.
+pub(crate) fn open_of_each(search: &Search<'_>, from: u64, before: u64) -> u64
+    requires fine { 0 < seconds_of search.now.parts.now.frequency }
+    requires unit { seconds_of search.now.parts.now.frequency ≤ 86400 }
+    requires first { search.now.first < from * per_day search.now.parts.now.frequency }
+    requires order { from ≤ before }
+    requires before { before ≤ days_before_year 9_801 + 1 }
+    ensures { result + count (from * per_day search.now.parts.now.frequency) (is_open_period search.now.parts.now search.now.first)
+        ≡ count (before * per_day search.now.parts.now.frequency) (is_open_period search.now.parts.now search.now.first) }
+{
+    let parts = search.parts;
+    let steps = steps_by_rest(search, from);
+    let mut near = NearDays::new(if lists_days(parts) { 0 } else { u32::MAX });
+    let mut total = 0;
+    let mut day = from;
+    while day < before {
+        near.turn_to(parts, day as u32);
+        let off = days_off(parts, &near, day as u32);
+        if off == 0 {
+            total += steps_at(search, &steps, from, day);
+        }
+        day += off.max(1) as u64;
+    }
+    total
+}
