@@ -16,7 +16,7 @@ use crate::answers::{Answer, add_answers, group_end};
 use crate::clock::{FIRST_HELD, LAST_HELD, is_moment};
 use crate::latest::{
     Latest, Steady, clear_after, first_listed, first_offset, latest_of, latest_within, look_on,
-    next_change, next_past, overrides,
+    next_change, next_other, next_past, overrides,
 };
 use crate::onsets::Onsets;
 use crate::spans::{SpanList, told_stretch};
@@ -46,6 +46,9 @@ const HELD_AHEAD: i64 = 120 * DAY;
 
 /// After a span that goes on for longer than this, spans are held for the day of an instant alone.
 const A_LONG_SPAN: i64 = 7 * DAY;
+
+/// How many seconds from the first span on others are held, after one that passes over onsets: each of these takes long.
+const PASSED_AHEAD: i64 = 5 * DAY;
 
 /// The number of spans that a zone holds, unless it makes more for one instant.
 const HELD: usize = 1_024;
@@ -643,7 +646,21 @@ impl Observed {
             if held.next > at + A_LONG_SPAN {
                 last = soon;
             }
+            last = self.held_to(at, &held, last, from + PASSED_AHEAD);
             at = held.next;
+        }
+    }
+
+    /// Up to where spans are held after one: the earlier of two instants, if the span passes over onsets that begin another offset, from an instant in
+    /// it on, and else the first of the two.
+    fn held_to(&self, at: Moment, span: &Steady, last: Moment, soon: Moment) -> Moment
+        requires { at <ℤ span.now.next }
+        ensures { result ≤ℤ last }
+    {
+        if next_other(&self.onsets, span.offset, at, span.next) < span.next {
+            last.min(soon)
+        } else {
+            last
         }
     }
 
