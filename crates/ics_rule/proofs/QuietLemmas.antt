@@ -23,17 +23,15 @@ use Rattle.ics_period.proofs.PeriodLemmas.{before_first, begun, period_mono}
 pub joined : (q : EffectiveRule) (start : ℕ) {a c : ℕ} (b : ℕ) → NoneChosen q start a b → NoneChosen q start b c → NoneChosen q start a c
 joined q start b first second n l u = elim (cases_lt n b) [ inl early ↦ first n l early | inr late ↦ second n late u ]
 
--- By the date: nothing is chosen before the first that is let in, nor from there on before the next step.
-module _ (q : EffectiveRule) (start : ℕ) {from opens : ℕ} (none : NoneLetIn q from opens) where
-  pub closed : NoneChosen q start from opens
-  closed n l u = not_let_in q start n (λ s. none n l u)
+-- By the parts of the date and the time: nothing is chosen before the first that they allow.
+pub closed : (q : EffectiveRule) (start : ℕ) {from opens : ℕ} → NoneLetIn q from opens → NoneChosen q start from opens
+closed q start none n l u = not_let_in q start n (λ s. none n l u)
 
-  pub off_step : {step : ℕ} (before : ℕ) → IsLeastFrom (is_stepped (period_in q start) q.interval) (period_in q opens) step
-      → ((n : ℕ) → opens ≤ n → n < before → period_in q n < step) → NoneChosen q start from before
-  off_step before next earlier n l u = elim (cases_lt n opens) [
-    | inl early ↦ closed n l early
-    | inr late ↦ no_step q start n (next.least (period_in q n) (period_mono q.frequency (monday_zero q.week_start) opens n late) (earlier n late u))
-  ]
+-- Nothing is chosen from a local on before the next step.
+pub off_step : (q : EffectiveRule) (start from before : ℕ) {step : ℕ} → IsLeastFrom (is_stepped (period_in q start) q.interval) (period_in q from) step
+    → ((n : ℕ) → from ≤ n → n < before → period_in q n < step) → NoneChosen q start from before
+off_step q start from before next earlier n l u =
+    no_step q start n (next.least (period_in q n) (period_mono q.frequency (monday_zero q.week_start) from n l) (earlier n l u))
 
 -- By the period held.
 module _ {q : EffectiveRule} (start : ℕ) {p : RecurrencePeriod} (own : IsPeriodOf q p) where

@@ -30,30 +30,28 @@ pub(crate) fn days_of_closed_month(parts: &EffectiveRule, day: u32) -> u32
     }
 }
 
-/// How many days from one on a rule does not allow, as far as one look tells. Single days are tested only if FREQ is finer than MONTHLY.
-fn days_out(parts: &EffectiveRule, day: u32) -> u32
+/// How many days from one on a rule does not allow, as far as one look tells. Single days are tested only if `by_days`.
+fn days_out(parts: &EffectiveRule, day: u32, by_days: bool) -> u32
     requires { day ≤ day_before 9_999 }
     ensures none { (j : ℕ) → j < result → lets_date parts.now (day + j) ≡ false }
     ensures most { result ≤ 32 }
 {
-    match parts.frequency {
-        Frequency::Yearly => 0,
-        Frequency::Monthly => days_of_closed_month(parts, day),
-        _ => {
-            if lets_date(parts, day) {
-                0
-            } else {
-                days_of_closed_month(parts, day).max(1)
-            }
-        }
+    if !by_days {
+        return days_of_closed_month(parts, day);
+    }
+    if lets_date(parts, day) {
+        0
+    } else {
+        days_of_closed_month(parts, day).max(1)
     }
 }
 
 /// Days of the calendar's 400 years, after which the days that a rule allows repeat.
 const CALENDAR_ROUND: u32 = 146_097;
 
-/// The first day from one on that a rule may allow. The search ends at `end`, and after a round of the calendar without such a day.
-fn next_open_day(parts: &EffectiveRule, day: u32, end: u32) -> u32
+/// The first day from one on that a rule may allow; with `by_days` it allows that day. The search ends at `end`, and after a round of the
+/// calendar without such a day.
+fn next_open_day(parts: &EffectiveRule, day: u32, end: u32, by_days: bool) -> u32
     requires day { day ≤ end }
     requires end { end ≤ day_before 9_999 }
     ensures low { day ≤ result }
@@ -66,7 +64,7 @@ fn next_open_day(parts: &EffectiveRule, day: u32, end: u32) -> u32
         if day >= round {
             return end;
         }
-        let out = days_out(parts, day);
+        let out = days_out(parts, day, by_days);
         if out == 0 {
             return day;
         }
@@ -92,15 +90,15 @@ pub(crate) fn next_open_second(parts: &EffectiveRule, n: u64) -> u64
     }
 }
 
-/// The first local from one on that a rule may allow. The search ends at `end`.
-pub(crate) fn next_open(parts: &EffectiveRule, n: u64, end: u64) -> u64
+/// The first local from one on that a rule may allow; with `by_days` it allows that day. The search ends at `end`.
+pub(crate) fn next_open(parts: &EffectiveRule, n: u64, end: u64, by_days: bool) -> u64
     requires local { n < end }
     requires end { end ≤ rules_end }
     ensures low { n ≤ result }
     ensures high { result < calendar_end }
     ensures none { NoneLetIn parts.now n result }
 {
-    let day = next_open_day(parts, (n / 86_400) as u32, (end / 86_400) as u32);
+    let day = next_open_day(parts, (n / 86_400) as u32, (end / 86_400) as u32, by_days);
     let n = n.max(day as u64 * 86_400);
     if skips_hours(parts.frequency) {
         n
@@ -119,7 +117,7 @@ fn opens_every_period(parts: &EffectiveRule) -> bool {
 }
 
 /// The first step after a period, which was looked at, in whose period a rule may allow a local. The next step if `last`, the period of the last
-/// local before `stop`, is earlier. Days are tested on the way, and no other period is looked at.
+/// local before `stop`, is earlier. Days are tested on the way, under MONTHLY only months, and no other period is looked at.
 pub(crate) fn next_open_step(
     search: &Search<'_>,
     period: &RecurrencePeriod,
@@ -139,6 +137,7 @@ pub(crate) fn next_open_step(
         return next;
     }
     let begin = first_local(parts.frequency, parts.week_start, next);
-    let place = next_open(parts, begin, stop);
+    let by_days = !matches!(parts.frequency, Frequency::Monthly);
+    let place = next_open(parts, begin, stop, by_days);
     next_step(search.first, parts.interval, period_of(parts, place))
 }

@@ -1,5 +1,5 @@
 //! How far a rule is known to keep nothing, without a look at another period.
-ghost use Rattle.std.specs.Prelude.{◌≡◌, ℕ, ◌<◌, true, Some};
+ghost use Rattle.std.specs.Prelude.{◌≡◌, ℕ, ◌<◌, ◌≤◌, true, Some};
 ghost use Rattle.ics_fields.specs.Locals.{calendar_end};
 ghost use Rattle.ics_rule.specs.Cursors.{HeldBy, IsCursorIn};
 ghost use Rattle.ics_rule.specs.Inner.Quiet.{NoneChosen};
@@ -12,23 +12,43 @@ use crate::search::Search;
 use crate::walk::next_step;
 use ics_period::{EffectiveRule, first_local, period_of};
 
-/// A local before which a rule chooses none from another on, by the parts of the date alone: the first that it may allow, or the first of the
-/// next step.
+/// After so many steps that allow nothing a question ends. Each of them costs some hundredth of what it costs to ask again on a later day.
+const MANY_STEPS: u32 = 64;
+
+/// The first local of the step that a local is in or, if it is in none, of the next. The end of the rules if that is later.
+fn begin_of_step(search: &Search<'_>, n: u64) -> u64
+    requires { n < calendar_end }
+    ensures none { NoneChosen search.now.parts.now search.now.start n result }
+    ensures inside { result ≤ rules_end }
+{
+    let parts = search.parts;
+    let step = next_step(search.first, parts.interval, period_of(parts, n));
+    if step > period_of(parts, RULES_END) {
+        return RULES_END;
+    }
+    first_local(parts.frequency, parts.week_start, step)
+}
+
+/// A local before which a rule chooses none from another on, by the parts of the date and the time alone: the first of a step that they allow,
+/// or the first of the last step that was asked about.
 fn next_by_date(search: &Search<'_>, from: u64) -> u64
     requires from { from < rules_end }
     ensures none { NoneChosen search.now.parts.now search.now.start from result }
     ensures inside { result < calendar_end }
 {
-    let parts = search.parts;
-    let open = next_open(parts, from, RULES_END);
-    if open >= RULES_END {
-        return RULES_END;
+    let mut at = from;
+    for _ in 0..MANY_STEPS {
+        if at >= RULES_END {
+            return at;
+        }
+        let open = next_open(search.parts, at, RULES_END, true);
+        let begin = begin_of_step(search, open);
+        if begin <= open {
+            return open;
+        }
+        at = begin;
     }
-    let step = next_step(search.first, parts.interval, period_of(parts, open));
-    if step > period_of(parts, RULES_END) {
-        return RULES_END;
-    }
-    open.max(first_local(parts.frequency, parts.week_start, step))
+    at
 }
 
 impl Cursor {

@@ -1,47 +1,21 @@
 use Rattle.std.proofs.Common.{arith}
-use Rattle.jiff_core.specs.Weekday.{monday_zero}
-use Rattle.ics_fields.specs.Sets.{IsLeastFrom}
-use Rattle.ics_period.specs.Candidates.{is_stepped, period_in}
-use Rattle.ics_period.specs.PeriodNumbers.{rules_end}
-use Rattle.ics_period.proofs.PeriodLemmas.{before_first, begun, period_mono}
-use Rattle.ics_rule.proofs.QuietLemmas.{closed, off_step}
+use Rattle.ics_rule.specs.Inner.Quiet.{NoneChosen}
+use Rattle.ics_rule.proofs.QuietLemmas.{closed, joined}
 use Rattle.ics_rule.proofs.quiet.next_by_date.Goals as goal
-use Rattle.ics_rule.proofs.quiet.next_by_date.Goals.{After-next_step-step}
+use Rattle.ics_rule.proofs.quiet.next_by_date.Goals.{After-next_open-open}
 
--- the step is the next from the first that may be allowed
-stepped : (c : After-next_step-step)
-    → IsLeastFrom (is_stepped (period_in c.args.search.now.parts.now c.args.search.now.start) c.args.search.now.parts.now.interval)
-    (period_in c.args.search.now.parts.now c.next_open-open.result) c.next_step-step.result
-stepped c = rw (c.args.search.now.of_start, c.period_of.ensures.value) at c.next_step-step.ensures
+-- nothing is chosen before the first that may be allowed
+opened : (c : After-next_open-open)
+    → NoneChosen c.args.search.now.parts.now c.args.search.now.start c.args.from c.next_open-open.result
+opened c = joined c.args.search.now.parts.now c.args.search.now.start c.loop.at c.loop.invariant.none
+    (closed c.args.search.now.parts.now c.args.search.now.start c.next_open-open.ensures.none)
 
-pub returns-then-open-ge-RULES_END-clause-none : goal.returns-then-open-ge-RULES_END-clause-none
-returns-then-open-ge-RULES_END-clause-none c = λ n l u.
-    closed c.args.search.now.parts.now c.args.search.now.start c.next_open-open.ensures.none n l (omega (arith, u, c.if-open-ge-RULES_END.true))
+pub returns-then-begin-open-clause-none : goal.returns-then-begin-open-clause-none
+returns-then-begin-open-clause-none c = opened (goal.at.returns-then-begin-open-clause-none c).After-next_open-open
 
-pub returns-then-step-period_of-clause-none : goal.returns-then-step-period_of-clause-none
-returns-then-step-period_of-clause-none c =
-    let q = c.args.search.now.parts.now in
-    off_step q c.args.search.now.start c.next_open-open.ensures.none rules_end
-    (stepped (goal.at.returns-then-step-period_of-clause-none c).After-next_step-step)
-    (λ n l u. let up = period_mono q.frequency (monday_zero q.week_start) n rules_end (omega (arith, u)) in
-    omega (arith, up, c.period_of-2.ensures.value, c.if-step-period_of.true))
-
-pub first_local-requires : goal.first_local-requires
-first_local-requires c =
-    let q = c.args.search.now.parts.now in
-    let low = begun q.frequency (monday_zero q.week_start) c.next_step-step.result rules_end
-    (omega (arith, c.period_of-2.ensures.value, c.if-step-period_of.false)) in
-    omega (arith, low)
-
-pub returns-clause-none : goal.returns-clause-none
-returns-clause-none c =
-    let q = c.args.search.now.parts.now in
-    off_step q c.args.search.now.start c.next_open-open.ensures.none c.max.result (stepped (goal.at.returns-clause-none c).After-next_step-step)
-    (λ n l u. before_first q.frequency (monday_zero q.week_start) c.next_step-step.result n (omega (arith, l, u, c.max.ensures, c.first_local.ensures)))
-
-pub returns-clause-inside : goal.returns-clause-inside
-returns-clause-inside c =
-    let q = c.args.search.now.parts.now in
-    let low = begun q.frequency (monday_zero q.week_start) c.next_step-step.result rules_end
-    (omega (arith, c.period_of-2.ensures.value, c.if-step-period_of.false)) in
-    omega (arith, low, c.max.ensures, c.first_local.ensures, c.if-open-ge-RULES_END.false)
+pub loop-preserved : goal.loop-preserved
+loop-preserved c = record {
+  none = joined c.args.search.now.parts.now c.args.search.now.start c.next_open-open.result
+      (opened (goal.at.loop-preserved c).After-next_open-open) c.begin_of_step-begin.ensures.none;
+  inside = omega (arith, c.begin_of_step-begin.ensures.inside);
+}
