@@ -6,7 +6,7 @@ ghost use Rattle.ics_rule.specs.Kept.{is_by_until};
 ghost use Rattle.ics_period.specs.PeriodNumbers.{rules_end};
 ghost use Rattle.ics_fields.specs.Locals.{calendar_end};
 
-use crate::never::{chooses_none, has_no_time};
+use crate::never::chooses_none;
 use crate::rule::Rule;
 use crate::search::Search;
 use ics_fields::{Local, Until};
@@ -209,9 +209,6 @@ impl Cursor {
             return RULES_END;
         }
         if chooses_none(search.parts) {
-            return RULES_END;
-        }
-        if has_no_time(&search) {
             return RULES_END;
         }
         self.next_possible(&search).min(RULES_END)

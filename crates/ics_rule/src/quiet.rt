@@ -7,12 +7,14 @@ ghost use Rattle.ics_rule.specs.Inner.Searches.{NoneWanted};
 ghost use Rattle.ics_period.specs.PeriodNumbers.{rules_end};
 
 use crate::cursor::{Cursor, RULES_END};
+use crate::never::has_no_time;
 use crate::pass::next_open;
 use crate::search::Search;
 use crate::walk::next_step;
 use ics_period::{EffectiveRule, first_local, period_of};
 
-/// After so many steps that allow nothing a question ends. Each of them costs some hundredth of what it costs to ask again on a later day.
+/// After so many steps that allow nothing a question ends, and it is asked whether a step ever does. To pass over them costs a few times what it
+/// costs to ask anew on a later day.
 const MANY_STEPS: u32 = 64;
 
 /// The first local of the step that a local is in or, if it is in none, of the next. The end of the rules if that is later.
@@ -29,8 +31,8 @@ fn begin_of_step(search: &Search<'_>, n: u64) -> u64
     first_local(parts.frequency, parts.week_start, step)
 }
 
-/// A local before which a rule chooses none from another on, by the parts of the date and the time alone: the first of a step that they allow,
-/// or the first of the last step that was asked about.
+/// A local before which a rule chooses none from another on, by the parts of the date and the time alone: the first that they allow in a step,
+/// or the first of a step, if those before it allow none.
 fn next_by_date(search: &Search<'_>, from: u64) -> u64
     requires from { from < rules_end }
     ensures none { NoneChosen search.now.parts.now search.now.start from result }
@@ -48,7 +50,7 @@ fn next_by_date(search: &Search<'_>, from: u64) -> u64
         }
         at = begin;
     }
-    at
+    if has_no_time(search) { RULES_END } else { at }
 }
 
 impl Cursor {

@@ -41,14 +41,6 @@ returns-then-chooses_none-clause-none c =
     (λ n l u. let is = c.chooses_none.ensures c.if-chooses_none.true c.args.start n (omega (arith, u)) in
     not_wanted (effective r) (number r.start) r.parts.count n (grind arith))
 
-pub returns-then-has_no_time-clause-none : goal.returns-then-has_no_time-clause-none
-returns-then-has_no_time-clause-none c =
-    let r = c.args.rule.now in
-    let at = (goal.at.returns-then-has_no_time-clause-none c).After-min-stop in
-    none_kept r c.args.self.now.place rules_end c.until_end.result (after at) (omega arith) (ends at)
-    (λ n l u. let is = c.has_no_time.ensures c.if-has_no_time.true n (omega (arith, u)) in
-    not_wanted (effective r) (number r.start) r.parts.count n (grind arith))
-
 pub returns-clause-none : goal.returns-clause-none
 returns-clause-none c =
     let r = c.args.rule.now in
