@@ -1,36 +1,43 @@
 -- How many locals a rule allows in one period at most.
-use Rattle.std.proofs.Common.{◌≡◌, ℕ, zero, suc, ◌+◌, ◌*◌, ◌/◌, ◌%◌, ◌<◌, ◌≤◌, Bool, true, false, ◌&&◌, ◌||◌, ◌==◌, ◌-◌, ◌⊎◌, pos, nat_le, max}
+use Rattle.std.proofs.Common.{◌≡◌, ℕ, zero, suc, ◌+◌, ◌*◌, ◌/◌, ◌%◌, ◌<◌, ◌≤◌, Bool, true, false, ◌&&◌, ◌||◌, ◌==◌, ◌-◌, ◌⊎◌, not, pos, nat_le, min, max}
 use Rattle.std.proofs.Common.{inr, refl, sym, ap, ◌∙◌, cond, arith}
 use Rattle.std.proofs.lemmas.Bool.{and_parts, eq-eqb, eqb-true, false_from_ne_true}
 use Rattle.std.proofs.lemmas.Bool.Decides.{nat_tests}
 use Rattle.std.proofs.lemmas.Nat.{le-div, div-add-mod'}
 use Rattle.std.proofs.Math.Nat.{mod-lt, mul-le-mul_right}
 use Rattle.jiff_core.specs.Weekday.{monday_zero}
+use Rattle.jiff_core.specs.Calendar.{days_of_months, days_in_month, days_in_year}
 use Rattle.jiff_core.proofs.CalendarLemmas.{days_of_months-zero, days_in_month_bounds}
+use Rattle.ics_fields.specs.Days.{days_before_year, year_of, year_day_of, month_of, month_day_of, weekday_of}
+use Rattle.ics_fields.proofs.DayLemmas.{year_under_way, days_before_year-next}
 use Rattle.ics_fields.specs.Locals.{calendar_end}
-use Rattle.ics_fields.specs.Ordinals.{lists_none_wide}
-use Rattle.ics_fields.specs.Sets.{contains_wide}
+use Rattle.ics_fields.specs.Ordinals.{lists_none, lists_none_wide, lists_no_weekday, numbers_of}
+use Rattle.ics_fields.specs.Sets.{contains, contains_wide}
 use Rattle.ics_fields.specs.declared.frequency.Frequency.{Frequency}
 use Rattle.ics_fields.specs.declared.frequency.Frequency.TheVariants.{Secondly, Minutely, Hourly, Daily, Weekly, Monthly, Yearly}
 use Rattle.ics_period.specs.declared.effective_rule.EffectiveRule.{EffectiveRule}
-use Rattle.ics_period.specs.PeriodNumbers.{day_of}
-use Rattle.ics_period.specs.Candidates.{lets, lets_date, lets_clock, is_candidate_in, in_step, period_in}
+use Rattle.ics_period.specs.PeriodNumbers.{day_of, month_number, period}
+use Rattle.ics_period.specs.Candidates.{lets, lets_place, lets_date, lets_clock, is_candidate_in, in_step, period_in}
 use Rattle.ics_period.specs.DateParts.{names_weekdays_alone}
 use Rattle.ics_period.specs.Ranks.{count, is_beside, is_placed, is_chosen, rank, size}
-use Rattle.ics_period.specs.RecurrencePeriods.{first_local}
-use Rattle.ics_period.proofs.Counts.{count-same, count-suc, count-add, count-from, count-product, count_every, count_mono, count_some}
-use Rattle.ics_period.proofs.PeriodLemmas.{begun, before_next, is_short, month_size}
+use Rattle.ics_period.specs.RecurrencePeriods.{month_start, first_local}
+use Rattle.ics_period.proofs.Counts.{count-same, count-suc, count-add, count-none, count-from, count-product, count_every, count_mono, count_most, count_some}
+use Rattle.ics_period.proofs.DateLemmas.{weekday_in, weekday_out, weekdays_alone}
+use Rattle.ics_period.proofs.MonthDays.{number_let_in}
+use Rattle.ics_period.proofs.Months.{month_high, month_positive}
+use Rattle.ics_period.proofs.PeriodLemmas.{begun, begins, before_first, before_next, is_short, month_size}
+use Rattle.ics_period.proofs.WeekLemmas.{year_day_is}
 use Rattle.ics_period.proofs.RankLemmas.{count_flat}
 use Rattle.ics_rule.specs.Inner.Rounds.{seconds_of}
-use Rattle.ics_rule.specs.Inner.OpenPeriods.{lets_own, lets_within, size_of_open, most_days}
+use Rattle.ics_rule.specs.Inner.OpenPeriods.{lets_own, lets_within, size_of_open, listed_in_month, listed_in_year, weekly, most_days}
 use Rattle.ics_rule.proofs.RoundLemmas.{date_alike}
 use Rattle.ics_rule.proofs.EachLemmas.{clock_split, within_at, in_period, size_daily}
 
 -- what passes one test passes another, so that no more pass it
-count_fewer : (n : ℕ) (f g : ℕ → Bool) → ((m : ℕ) → f m ≡ true → g m ≡ true) → count n f ≤ count n g
+count_fewer : (n : ℕ) (f g : ℕ → Bool) → ((m : ℕ) → m < n → f m ≡ true → g m ≡ true) → count n f ≤ count n g
 unfolding count
 count_fewer zero f g h = omega arith
-count_fewer (suc n) f g h = let less = count_fewer n f g h in more (f n) (g n) (h n) less
+count_fewer (suc n) f g h = let less = count_fewer n f g (λ m l. h m (omega (arith, l))) in more (f n) (g n) (h n (omega arith)) less
   where
     more : {x y : ℕ} (a b : Bool) → (a ≡ true → b ≡ true) → x ≤ y → x + cond a 1 0 ≤ y + cond b 1 0
     more a b h l = grind arith
@@ -85,7 +92,7 @@ module _ (q : EffectiveRule) (start n top u : ℕ) (t g : ℕ → Bool)
       let up = count_mono calendar_end (max calendar_end end) beside (omega arith) in
       let flat = count_flat end (max calendar_end end) beside (omega arith)
       (λ m l h. false_from_ne_true (beside m) (λ is. let early = high m (here m is) in omega (arith, early, l))) in
-      let fewer = count_fewer end beside block (λ m is.
+      let fewer = count_fewer end beside block (λ m l is.
       both_true (t (m / u)) (g (m % u)) (opens m (here m is) (parts m is).0) (lets_in m (parts m is).1)) in
       omega (arith, up, flat, fewer, count-product top u t g)
 
@@ -127,32 +134,221 @@ fits Monthly w (suc p) h = grind (arith, days_in_month_bounds, month_size)
 fits Yearly w p h = is_short Yearly w p
 fits f w p h = grind arith
 
+-- the numbers up to one that are listed, by a list from the start and one from the end
+module _ (f g : ℕ → Bool) (len : ℕ) where
+  abbrev listed : ℕ → Bool
+  listed k = f (k + 1) || g (len - k)
+
+  one : (a b : Bool) → cond (a || b) 1 0 ≤ cond a 1 0 + cond b 1 0
+  one a b = grind arith
+
+  so_far : (n : ℕ) → n ≤ len → count n listed + count (len + 1 - n) g ≤ count (n + 1) f + count (len + 1) g
+  so_far zero l =
+      let none = count-none 0 listed (λ m l. absurd (omega (arith, l))) in
+      let all = ap (λ x. count x g) (let e : len + 1 - 0 ≡ len + 1 = omega arith in e) in
+      omega (arith, none, all)
+  so_far (suc n) l =
+      let before = so_far n (omega (arith, l)) in
+      let more = count-suc n listed in
+      let early = count-suc (n + 1) f in
+      let late = count-suc (len - n) g in
+      let here = ap (λ x. count x g) (let e : len + 1 - n ≡ suc (len - n) = omega (arith, l) in e) in
+      let next = ap (λ x. count x g) (let e : len + 1 - suc n ≡ len - n = omega arith in e) in
+      let up = ap (λ x. count x f) (let e : suc n + 1 ≡ suc (n + 1) = omega arith in e) in
+      omega (arith, before, more, early, late, here, next, up, one (f (n + 1)) (g (len - n)))
+
+  listed_most : count len listed ≤ count (len + 1) f + count (len + 1) g
+  listed_most = let all = so_far len (omega arith) in omega (arith, all)
+
+-- the place of a day in its month, and the size of that
+month_place : (e : ℕ) → (month_day_of e ≡ e + 1 - month_start (month_number e))
+    × (month_start (suc (month_number e)) ≡ month_start (month_number e) + days_in_month (pos (year_of e)) (month_of e))
+unfolding month_day_of year_day_of
+month_place e =
+    let y = year_of e in
+    let m = month_of e in
+    let p = month_number e - 1 in
+    let low = month_positive e in
+    let high = month_high e in
+    let way = year_under_way e in
+    let year : (y * 12 + m - 1) / 12 ≡ y = omega (arith, low, high) in
+    let month : (y * 12 + m - 1) % 12 ≡ m - 1 = omega (arith, low, high) in
+    let begin : month_start (month_number e) ≡ days_before_year y + days_of_months (pos y) (m - 1) = rw (year, month) refl in
+    let same : suc p ≡ month_number e = omega (arith, low) in
+    let number : p % 12 + 1 ≡ m = omega (arith, low, high) in
+    let size : days_in_month (pos (p / 12)) (p % 12 + 1) ≡ days_in_month (pos y) m =
+    ap (λ z. days_in_month (pos z) (p % 12 + 1)) year ∙ ap (λ z. days_in_month (pos y) z) number in (
+      omega (arith, begin, way.0),
+      omega (arith, month_size p, size, ap month_start same, ap (λ z. month_start (suc z)) same),
+    )
+
 -- its days that the rule allows
 module _ (q : EffectiveRule) (a : ℕ) where
   abbrev is_open : ℕ → Bool
   is_open e = nat_le a e && lets_date q e
 
-  at_most : (d : ℕ) → count (a + d) is_open ≤ d
-  at_most d =
-      let fewer = count_fewer (a + d) is_open (nat_le a) (λ e is. (and_parts (nat_le a e) (lets_date q e) is).0) in
-      omega (arith, fewer, count_later a d)
+  from_first : (len : ℕ) → count (a + len) is_open ≡ count len (λ k. lets_date q (a + k))
+  from_first len = count-from a len is_open (λ m l. grind (arith, nat_tests))
+      ∙ count-same len (λ k. is_open (a + k)) (λ k. lets_date q (a + k)) (λ k l. ap (λ b. b && lets_date q (a + k)) (not_earlier a (a + k) (omega arith)))
 
-  -- in a week as many as in each
-  in_week : 0 < seconds_of q.frequency → (b : Bool) → names_weekdays_alone q ≡ b → count (a + 7) is_open ≤ cond b (count 7 (lets_date q)) 7
-  in_week fine false e = at_most 7
-  in_week fine true e =
-      let from = count-from a 7 is_open (λ m l. grind (arith, nat_tests)) in
-      let same = count-same 7 (λ k. is_open (a + k)) (λ k. lets_date q (a + k))
-      (λ k l. ap (λ b. b && lets_date q (a + k)) (not_earlier a (a + k) (omega arith))) in
-      let any = count_cycle 7 (lets_date q) (λ m. date_alike q e fine (m + 7) m (inr (omega arith))) a in
-      omega (arith, from, same, any)
+  at_most : (len : ℕ) → count (a + len) is_open ≤ len
+  at_most len = let from = from_first len in let most = count_most len (λ k. lets_date q (a + k)) in omega (arith, from, most)
 
-  open_days : (f : Frequency) → q.frequency ≡ f → (seconds_of f ≡ 0) ⊎ (86_400 < seconds_of f) → count (a + days f) is_open ≤ most_days f q
-  unfolding days
-  open_days Weekly e h = in_week (rw e (omega arith)) (names_weekdays_alone q) refl
-  open_days Monthly e h = at_most 31
-  open_days Yearly e h = at_most 366
-  open_days f e h = grind arith
+  -- where BYMONTHDAY lists days of the month that begins with the first
+  module _ (x len : ℕ) (begin : a ≡ month_start x) (end : a + len ≡ month_start (suc x))
+      (here : (k : ℕ) → k < len → month_number (a + k) ≡ x) where
+    month_day_in : (k : ℕ) → k < len → lists_none q.month_days ≡ false → lets_date q (a + k) ≡ true
+        → (contains q.month_days.front (k + 1) || contains q.month_days.back (len - k)) ≡ true
+    month_day_in k l some is =
+        let e = a + k in
+        let allowed : lets_place q.month_days (month_day_of e) (days_in_month (pos (year_of e)) (month_of e)) ≡ true = grind (arith, and_parts) in
+        let place = month_place e in
+        let own = here k l in
+        let day : month_day_of e ≡ k + 1 = omega (arith, place.0, begin, ap month_start own) in
+        let back : days_in_month (pos (year_of e)) (month_of e) + 1 - month_day_of e ≡ len - k =
+        omega (arith, day, place.1, begin, end, ap month_start own, ap (λ z. month_start (suc z)) own) in
+        ap (λ z. contains q.month_days.front z || contains q.month_days.back (len - k)) (sym day)
+        ∙ ap (λ z. contains q.month_days.front (month_day_of e) || contains q.month_days.back z) (sym back)
+        ∙ listed_there (lists_none q.month_days) some allowed
+      where
+        listed_there : (b : Bool) {c : Bool} → b ≡ false → (b || c) ≡ true → c ≡ true
+        listed_there b h o = grind arith
+
+    in_month : len ≤ 31 → (b : Bool) → lists_none q.month_days ≡ b
+        → count (a + len) is_open ≤ cond b 31 (count 32 (contains q.month_days.front) + count 32 (contains q.month_days.back))
+    in_month short true none = let most = at_most len in omega (arith, most, short)
+    in_month short false some =
+        let front = contains q.month_days.front in
+        let back = contains q.month_days.back in
+        let fewer = count_fewer len (λ k. lets_date q (a + k)) (λ k. front (k + 1) || back (len - k)) (λ k l is. month_day_in k l some is) in
+        omega (
+          arith,
+          from_first len,
+          fewer,
+          listed_most front back len,
+          count_mono (len + 1) 32 front (omega (arith, short)),
+          count_mono (len + 1) 32 back (omega (arith, short)),
+        )
+
+  -- where BYYEARDAY lists days of the year that begins with the first
+  module _ (x len : ℕ) (begin : a ≡ days_before_year x) (end : a + len ≡ days_before_year (suc x))
+      (here : (k : ℕ) → k < len → year_of (a + k) ≡ x) where
+    year_day_in : (k : ℕ) → k < len → lists_none_wide q.year_days ≡ false → lets_date q (a + k) ≡ true
+        → (contains_wide q.year_days.front (k + 1) || contains_wide q.year_days.back (len - k)) ≡ true
+    year_day_in k l some is =
+        let e = a + k in
+        let allowed = number_let_in q e is in
+        let place = year_day_is e in
+        let next = days_before_year-next x in
+        let own = here k l in
+        let day : year_day_of e ≡ k + 1 = omega (arith, place, begin, ap days_before_year own) in
+        let back : days_in_year (pos (year_of e)) + 1 - year_day_of e ≡ len - k =
+        omega (arith, day, next, begin, end, ap (λ z. days_in_year (pos z)) own) in
+        ap (λ z. contains_wide q.year_days.front z || contains_wide q.year_days.back (len - k)) (sym day)
+        ∙ ap (λ z. contains_wide q.year_days.front (year_day_of e) || contains_wide q.year_days.back z) (sym back)
+        ∙ listed_there (lists_none_wide q.year_days) some allowed
+      where
+        listed_there : (b : Bool) {c : Bool} → b ≡ false → (b || c) ≡ true → c ≡ true
+        listed_there b h o = grind arith
+
+    in_year : len ≤ 366 → (b : Bool) → lists_none_wide q.year_days ≡ b
+        → count (a + len) is_open ≤ cond b 366 (count 367 (contains_wide q.year_days.front) + count 367 (contains_wide q.year_days.back))
+    in_year short true none = let most = at_most len in omega (arith, most, short)
+    in_year short false some =
+        let front = contains_wide q.year_days.front in
+        let back = contains_wide q.year_days.back in
+        let fewer = count_fewer len (λ k. lets_date q (a + k)) (λ k. front (k + 1) || back (len - k)) (λ k l is. year_day_in k l some is) in
+        omega (
+          arith,
+          from_first len,
+          fewer,
+          listed_most front back len,
+          count_mono (len + 1) 367 front (omega (arith, short)),
+          count_mono (len + 1) 367 back (omega (arith, short)),
+        )
+
+  -- where a rule names weekdays alone, in each week at most as many as under WEEKLY
+  module _ (alone : names_weekdays_alone q ≡ true) where
+    to_weekly : (e : ℕ) → lets_date q e ≡ true → lets_date (weekly q) e ≡ true
+    to_weekly e is = by (lists_no_weekday q.weekdays || contains q.weekdays.plain (weekday_of e)) refl
+      where
+        or_last : (a b c : Bool) → c ≡ false → (a || b || not c) ≡ true
+        or_last a b c h = grind arith
+
+        numbered : (lists_no_weekday q.weekdays || contains q.weekdays.plain (weekday_of e)) ≡ false → (c : Bool)
+            → lists_none (numbers_of q.weekdays (weekday_of e)) ≡ c → lets_date (weekly q) e ≡ true
+        numbered day true none = let no = sym is ∙ weekday_out q e day none in absurd cc
+        numbered day false some = weekdays_alone (weekly q) e alone
+            ∙ or_last (lists_no_weekday q.weekdays) (contains q.weekdays.plain (weekday_of e)) (lists_none (numbers_of q.weekdays (weekday_of e))) some
+
+        by : (b : Bool) → (lists_no_weekday q.weekdays || contains q.weekdays.plain (weekday_of e)) ≡ b → lets_date (weekly q) e ≡ true
+        by true day = weekday_in (weekly q) e day alone
+        by false day = numbered day (lists_none (numbers_of q.weekdays (weekday_of e))) refl
+
+    weeks_of : (k : ℕ) → count (7 * k) (λ j. lets_date (weekly q) (a + j)) ≡ k * count 7 (lets_date (weekly q))
+    weeks_of zero =
+        let p = λ (j : ℕ). lets_date (weekly q) (a + j) in
+        let none = count-none 0 p (λ m l. absurd (omega (arith, l))) in
+        let empty = ap (λ x. count x p) (let e : 7 * 0 ≡ 0 = omega arith in e) in
+        omega (arith, none, empty)
+    weeks_of (suc k) =
+        let before = weeks_of k in
+        let p = λ (j : ℕ). lets_date (weekly q) (a + j) in
+        let sum = ap (λ x. count x p) (let e : 7 * suc k ≡ 7 * k + 7 = omega arith in e) ∙ count-add (7 * k) 7 p in
+        let one = count-same 7 (λ j. p (7 * k + j)) (λ j. lets_date (weekly q) (a + 7 * k + j))
+        (λ j l. ap (lets_date (weekly q)) (let e : a + (7 * k + j) ≡ a + 7 * k + j = omega arith in e)) in
+        let any = count_cycle 7 (lets_date (weekly q)) (λ m. date_alike (weekly q) alone (omega arith) (m + 7) m (inr (omega arith))) (a + 7 * k) in
+        omega (arith, before, sum, one, any)
+
+    on_weeks : (weeks : ℕ) → count (a + 7 * weeks) is_open ≤ weeks * count 7 (lets_date (weekly q))
+    on_weeks weeks =
+        let fewer = count_fewer (7 * weeks) (λ k. lets_date q (a + k)) (λ k. lets_date (weekly q) (a + k)) (λ k l is. to_weekly (a + k) is) in
+        omega (arith, from_first (7 * weeks), fewer, weeks_of weeks)
+
+  among : (len weeks most : ℕ) → len ≤ 7 * weeks → count (a + len) is_open ≤ most → (b : Bool) → names_weekdays_alone q ≡ b
+      → count (a + len) is_open ≤ cond b (min most (weeks * count 7 (lets_date (weekly q)))) most
+  among len weeks most inside few false e = few
+  among len weeks most inside few true e =
+      let up = count_mono (a + len) (a + 7 * weeks) is_open (omega (arith, inside)) in
+      omega (arith, up, few, on_weeks e weeks)
+
+-- the period of a day
+period_at : (f : Frequency) (w p e : ℕ) → (seconds_of f ≡ 0) ⊎ (86_400 < seconds_of f) → first_day f w p ≤ e → e < first_day f w (suc p)
+    → period f w (e * 86_400) ≡ p
+period_at f w p e long low high =
+    let begin = is_day f w p long in
+    let end = is_day f w (suc p) long in
+    let more = begins f w p (e * 86_400) (omega (arith, begin, low)) in
+    let less = before_first f w (suc p) (e * 86_400) (omega (arith, end, high)) in
+    omega (arith, more, less)
+
+-- a period from the first day on that has so many days
+open_days : (q : EffectiveRule) (x len : ℕ) (f : Frequency) → q.frequency ≡ f → (seconds_of f ≡ 0) ⊎ (86_400 < seconds_of f)
+    → first_day f (monday_zero q.week_start) x + len ≡ first_day f (monday_zero q.week_start) (suc x) → len ≤ days f
+    → count (first_day f (monday_zero q.week_start) x + len) (is_open q (first_day f (monday_zero q.week_start) x)) ≤ most_days f q
+unfolding days
+open_days q x len Weekly e long end short =
+    let a = first_day Weekly (monday_zero q.week_start) x in
+    among q a len 1 7 short (let most = at_most q a len in omega (arith, most, short)) (names_weekdays_alone q) refl
+open_days q x len Monthly e long end short =
+    let w = monday_zero q.week_start in
+    let a = first_day Monthly w x in
+    let begin : a ≡ month_start x = omega arith in
+    let next : first_day Monthly w (suc x) ≡ month_start (suc x) = omega arith in
+    let here = λ (k : ℕ) (l : k < len). (let day : (a + k) * 86_400 / 86_400 ≡ a + k = omega arith in
+    sym (ap month_number day) ∙ period_at Monthly w x (a + k) long (omega arith) (omega (arith, l, end))) in
+    among q a len 5 (listed_in_month q.month_days) (omega (arith, short))
+    (in_month q a x len begin (omega (arith, end, next)) here short (lists_none q.month_days) refl) (names_weekdays_alone q) refl
+open_days q x len Yearly e long end short =
+    let w = monday_zero q.week_start in
+    let a = first_day Yearly w x in
+    let begin : a ≡ days_before_year x = omega arith in
+    let next : first_day Yearly w (suc x) ≡ days_before_year (suc x) = omega arith in
+    let here = λ (k : ℕ) (l : k < len). (let day : (a + k) * 86_400 / 86_400 ≡ a + k = omega arith in
+    sym (ap year_of day) ∙ period_at Yearly w x (a + k) long (omega arith) (omega (arith, l, end))) in
+    among q a len 53 (listed_in_year q.year_days) (omega (arith, short))
+    (in_year q a x len begin (omega (arith, end, next)) here short (lists_none_wide q.year_days) refl) (names_weekdays_alone q) refl
+open_days q x len f e long end short = grind arith
 
 -- the times of a day
 pub day_within : (q : EffectiveRule) → count 86_400 (lets_within Daily q) ≡ count 86_400 (lets_clock q)
@@ -176,15 +372,22 @@ long_size q start n long =
     let w = monday_zero q.week_start in
     let x = period_in q n in
     let a = first_day f w x in
+    let b = first_day f w (suc x) in
     let day = is_day f w x long in
+    let next = is_day f w (suc x) long in
     let end = fits f w x long in
-    let most = in_blocks q start n (a + days f) 86_400 (is_open q a) (lets_clock q)
-    (λ m same. let b = before_next f w (suc x) m (omega (arith, same)) in omega (arith, b, day, end))
+    let in_a = begun f w x n (omega arith) in
+    let in_b = before_next f w (suc x) n (omega arith) in
+    let whole : a + (b - a) ≡ b = omega (arith, day, next, in_a, in_b) in
+    let most = in_blocks q start n b 86_400 (is_open q a) (lets_clock q)
+    (λ m same. let early = before_next f w (suc x) m (omega (arith, same)) in omega (arith, early, next))
     (λ m same on. both_true (nat_le a (day_of m)) (lets_date q (day_of m)) (not_earlier a (day_of m)
-    (let b = begun f w x m (omega (arith, same)) in omega (arith, b, day))) on)
+    (let late = begun f w x m (omega (arith, same)) in omega (arith, late, day))) on)
     (λ m is. same_time q m ∙ is) in
-    let few = mul-le-mul_right (count 86_400 (lets_clock q)) (open_days q a f refl long) in
-    omega (arith, most, few)
+    let few = mul-le-mul_right (count 86_400 (lets_clock q))
+    (open_days q x (b - a) f refl long whole (omega (arith, day, next, end))) in
+    let same = ap (λ z. count z (is_open q a) * count 86_400 (lets_clock q)) whole in
+    omega (arith, most, few, same)
 
 -- if BYSETPOS lists only greater places, nothing is chosen
 pub none_placed : (q : EffectiveRule) (start n most : ℕ) → n < calendar_end → size q start n ≤ most → lists_none_wide q.positions ≡ false

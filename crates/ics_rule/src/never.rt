@@ -4,14 +4,16 @@ ghost use Rattle.ics_fields.specs.Sets.{contains_wide};
 ghost use Rattle.ics_period.specs.Ranks.{count, size, is_chosen};
 ghost use Rattle.ics_period.specs.Candidates.{lets, lets_date, lets_clock};
 ghost use Rattle.ics_rule.specs.Inner.Rounds.{seconds_of};
-ghost use Rattle.ics_rule.specs.Inner.OpenPeriods.{size_of_open, most_days, IsClosedTo};
+ghost use Rattle.ics_rule.specs.Inner.OpenPeriods.{size_of_open, listed_in_month, listed_in_year, on_weekdays, most_days, IsClosedTo};
 ghost use Rattle.ics_fields.specs.Locals.{calendar_end};
 
 use crate::pass::next_open_second;
 use crate::rounds::seconds_of;
 use crate::search::Search;
-use ics_fields::{BitSet, Frequency, WideBitSet};
-use ics_period::{EffectiveRule, clock_set, lets_date, members_below, names_weekdays_alone};
+use ics_fields::{BitSet, Frequency, Ordinals, WideBitSet};
+use ics_period::{
+    EffectiveRule, PlacesPart, clock_set, lets_date, members_below, names_weekdays_alone,
+};
 
 /// How many values of one unit of the clock a part allows.
 fn readings(part: BitSet, size: u8) -> u64
@@ -31,7 +33,7 @@ fn times_of_day(parts: &EffectiveRule) -> u64
     readings(parts.hours, 24) * readings(parts.minutes, 60) * readings(parts.seconds, 60)
 }
 
-/// How many days of each week a rule allows that restricts no other part of the date than weekdays.
+/// How many days of the first week a rule allows.
 fn open_weekdays(parts: &EffectiveRule) -> u64
     ensures value { result ≡ count 7 (lets_date parts.now) }
     ensures bound { result ≤ 7 }
@@ -47,21 +49,54 @@ fn open_weekdays(parts: &EffectiveRule) -> u64
     total
 }
 
+/// How many of a number of days, which so many weeks have, the weekdays allow at most that a rule names alone. Under WEEKLY the numbers that they
+/// are listed with do not count.
+fn on_weekdays(parts: &EffectiveRule, weeks: u64, days: u64) -> u64
+    requires { weeks ≤ 53 }
+    ensures value { result ≡ on_weekdays parts.now weeks days }
+    ensures bound { result ≤ days }
+{
+    if !names_weekdays_alone(parts) {
+        return days;
+    }
+    let mut weekly = *parts;
+    weekly.frequency = Frequency::Weekly;
+    days.min(weeks * open_weekdays(&weekly))
+}
+
+/// How many days of a month BYMONTHDAY lists at most.
+fn listed_in_month(days: &Ordinals) -> u64
+    ensures value { result ≡ listed_in_month days.now }
+    ensures bound { result ≤ 64 }
+{
+    if days.is_empty() {
+        31
+    } else {
+        members_below(&days.front, 32) + members_below(&days.back, 32)
+    }
+}
+
+/// How many days of a year BYYEARDAY lists at most.
+fn listed_in_year(days: &PlacesPart) -> u64
+    ensures value { result ≡ listed_in_year days.now }
+    ensures bound { result ≤ 734 }
+{
+    if days.is_empty() {
+        366
+    } else {
+        members_below(&days.list.front, 367) + members_below(&days.list.back, 367)
+    }
+}
+
 /// A number of days that a rule allows at most in one period, if it is longer than a day.
 fn most_days(parts: &EffectiveRule) -> u64
     ensures value { result ≡ most_days parts.now.frequency parts.now }
-    ensures bound { result ≤ 366 }
+    ensures bound { result ≤ 734 }
 {
     match parts.frequency {
-        Frequency::Yearly => 366,
-        Frequency::Monthly => 31,
-        Frequency::Weekly => {
-            if names_weekdays_alone(parts) {
-                open_weekdays(parts)
-            } else {
-                7
-            }
-        }
+        Frequency::Yearly => on_weekdays(parts, 53, listed_in_year(&parts.year_days)),
+        Frequency::Monthly => on_weekdays(parts, 5, listed_in_month(&parts.month_days)),
+        Frequency::Weekly => on_weekdays(parts, 1, 7),
         _ => 1,
     }
 }

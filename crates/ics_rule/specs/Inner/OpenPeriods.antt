@@ -1,8 +1,11 @@
 -- Periods of a day or less. Those that a rule allows all have the same number of locals.
-use Rattle.std.specs.Prelude.{◌≡◌, ℕ, List, length, slice_index_or, ◌+◌, ◌≤◌, ◌*◌, ◌/◌, ◌%◌, ◌<◌, Bool, not, true, false, ◌&&◌, ◌||◌, if◌then◌else◌}
+use Rattle.std.specs.Prelude.{◌≡◌, ℕ, List, length, slice_index_or, ◌+◌, ◌≤◌, ◌*◌, ◌/◌, ◌%◌, ◌<◌, Bool, not, true, false, ◌&&◌, ◌||◌, if◌then◌else◌, min}
 use Rattle.ics_fields.specs.declared.frequency.Frequency.{Frequency}
 use Rattle.ics_fields.specs.declared.frequency.Frequency.TheVariants.{Secondly, Minutely, Hourly, Daily, Weekly, Monthly, Yearly}
-use Rattle.ics_fields.specs.Ordinals.{lists_none_wide}
+use Rattle.ics_fields.specs.declared.ordinals.Ordinals.{Ordinals}
+use Rattle.ics_fields.specs.declared.ordinals.WideOrdinals.{WideOrdinals}
+use Rattle.ics_fields.specs.Sets.{contains, contains_wide}
+use Rattle.ics_fields.specs.Ordinals.{lists_none, lists_none_wide}
 use Rattle.ics_period.specs.declared.effective_rule.EffectiveRule.{EffectiveRule}
 use Rattle.ics_period.specs.PeriodNumbers.{hour_of, minute_of, second_of}
 use Rattle.ics_period.specs.EffectiveRules.{skips_hours, skips_minutes, skips_seconds}
@@ -56,15 +59,30 @@ is_open_period q first p =
 abbrev pub size_of_open : EffectiveRule → ℕ
 size_of_open q = count (seconds_of q.frequency) (lets_within q.frequency q)
 
+-- how many days of a month, or of a year, a part lists at most
+abbrev pub listed_in_month : Ordinals → ℕ
+listed_in_month p = if lists_none p then 31 else count 32 (contains p.front) + count 32 (contains p.back)
+
+abbrev pub listed_in_year : WideOrdinals → ℕ
+listed_in_year p = if lists_none_wide p then 366 else count 367 (contains_wide p.front) + count 367 (contains_wide p.back)
+
+-- a rule with another frequency, under which a weekday with a number means the weekday
+abbrev pub weekly : EffectiveRule → EffectiveRule
+weekly q = record q { frequency = Weekly }
+
+-- how many of a number of days, which so many weeks have, a rule allows at most that names weekdays alone
+abbrev pub on_weekdays : EffectiveRule → ℕ → ℕ → ℕ
+on_weekdays q weeks days = if names_weekdays_alone q then min days (weeks * count 7 (lets_date (weekly q))) else days
+
 -- a number of days that the rule allows at most in one period, if it is longer than a day
 abbrev pub most_days : Frequency → EffectiveRule → ℕ
 most_days Secondly q = 1
 most_days Minutely q = 1
 most_days Hourly q = 1
 most_days Daily q = 1
-most_days Weekly q = if names_weekdays_alone q then count 7 (lets_date q) else 7
-most_days Monthly q = 31
-most_days Yearly q = 366
+most_days Weekly q = on_weekdays q 1 7
+most_days Monthly q = on_weekdays q 5 (listed_in_month q.month_days)
+most_days Yearly q = on_weekdays q 53 (listed_in_year q.year_days)
 
 -- how many of them BYSETPOS allows; all of them if it is absent
 abbrev pub chosen_of_size : EffectiveRule → Bool → ℕ → ℕ
