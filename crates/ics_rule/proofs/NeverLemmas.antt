@@ -1,5 +1,5 @@
 -- Rules that choose nothing.
-use Rattle.std.proofs.Common.{◌≡◌, ℕ, ◌+◌, ◌-◌, ◌*◌, ◌/◌, ◌%◌, ◌<◌, ◌≤◌, ◌&&◌, false, Option, None, sym, ap, ◌∙◌, arith}
+use Rattle.std.proofs.Common.{◌≡◌, ℕ, ◌+◌, ◌-◌, ◌*◌, ◌/◌, ◌%◌, ◌<◌, ◌≤◌, inr, Bool, ◌&&◌, ◌||◌, not, true, false, Option, None, refl, sym, ap, ◌∙◌, arith}
 use Rattle.std.proofs.lemmas.Bool.{and_parts, false_from_ne_true}
 use Rattle.std.proofs.lemmas.Nat.{div-add-mod', mod-mul-add}
 use Rattle.std.proofs.Math.Nat.{add-mul, mod-lt, mul_assoc}
@@ -10,11 +10,13 @@ use Rattle.ics_period.specs.declared.effective_rule.EffectiveRule.{EffectiveRule
 use Rattle.ics_rule.specs.declared.cursor.Cursor.{Cursor}
 use Rattle.ics_period.specs.PeriodNumbers.{day_of, period, rules_end}
 use Rattle.ics_period.specs.Candidates.{is_candidate_in, in_step, lets_date, lets_clock, period_in}
+use Rattle.ics_period.specs.DateParts.{names_weekdays_alone}
 use Rattle.ics_period.specs.Ranks.{is_chosen, is_placed}
 use Rattle.ics_rule.specs.Cursors.{IsCursorIn}
 use Rattle.ics_rule.specs.Inner.Searches.{NoneWanted, IsWalked}
 use Rattle.ics_rule.specs.Inner.Rounds.{seconds_of}
-use Rattle.ics_rule.specs.Inner.OpenPeriods.{IsClosedTo}
+use Rattle.ics_rule.specs.Inner.OpenPeriods.{cycle, may_let, IsClosedTo}
+use Rattle.ics_rule.proofs.RoundLemmas.{date_alike}
 use Rattle.ics_rule.proofs.StepLemmas.{stepped_parts}
 use Rattle.ics_rule.proofs.MostLemmas.{same_time}
 use Rattle.ics_rule.proofs.CursorLemmas.{held_mono, moved_none, not_wanted}
@@ -51,31 +53,53 @@ apart d rest place past x less is some low high own =
     let same = ap (λ y. y % d) next in
     omega (arith, left, right, same, some)
 
--- A local is in a unit of its day.
-place_in : (f : Frequency) (w n : ℕ) → 0 < seconds_of f → seconds_of f ≤ 86_400
-    → period f w n ≡ n % 86_400 / seconds_of f + n / 86_400 * (86_400 / seconds_of f)
-place_in f w n h u = grind arith
+-- A local is in a unit of its day, or of its week.
+place_in : (f : Frequency) (w n : ℕ) (by_week : Bool) → 0 < seconds_of f → seconds_of f ≤ 86_400
+    → period f w n ≡ n % cycle by_week / seconds_of f + n / cycle by_week * (cycle by_week / seconds_of f)
+place_in f w n true h u = grind arith
+place_in f w n false h u = grind arith
 
--- if the times of the units that steps can be are closed, nothing is chosen
-pub no_time : (q : EffectiveRule) (start d : ℕ) → 0 < seconds_of q.frequency → seconds_of q.frequency ≤ 86_400 → 0 < d → q.interval % d ≡ 0
-    → (86_400 / seconds_of q.frequency) % d ≡ 0 → IsClosedTo q (seconds_of q.frequency) d (period_in q start % d) 86_400 → (n : ℕ) → is_chosen q start n ≡ false
-no_time q start d fine unit some steps days closed n = false_from_ne_true (is_chosen q start n) (λ yes.
+-- what a rule allows repeats with it
+let_again : (q : EffectiveRule) (n : ℕ) → 0 < seconds_of q.frequency → (by_week : Bool) → (by_week ≡ true → names_weekdays_alone q ≡ true)
+    → may_let q by_week (n % cycle by_week) ≡ may_let q by_week n
+let_again q n fine false alone = same_time q n
+let_again q n fine true alone =
+    let hour : n % 604_800 / 3_600 % 24 ≡ n / 3_600 % 24 = omega arith in
+    let minute : n % 604_800 / 60 % 60 ≡ n / 60 % 60 = omega arith in
+    let second : n % 604_800 % 60 ≡ n % 60 = omega arith in
+    let date = date_alike q (alone refl) fine (day_of (n % 604_800)) (day_of n) (inr (omega arith)) in
+    ap (λ x. x && lets_clock q (n % 604_800)) date ∙ rw (hour, minute, second) refl
+
+let_may : (a d k : Bool) → d ≡ true → k ≡ true → ((not a || d) && k) ≡ true
+let_may a d k h e = grind arith
+
+-- if the units that steps can be are closed, nothing is chosen
+pub no_time : (q : EffectiveRule) (start d : ℕ) (by_week : Bool) → 0 < seconds_of q.frequency → seconds_of q.frequency ≤ 86_400 → 0 < d
+    → (by_week ≡ true → names_weekdays_alone q ≡ true) → (q.interval % d ≡ 0) × ((cycle by_week / seconds_of q.frequency) % d ≡ 0)
+    → IsClosedTo q by_week (seconds_of q.frequency) d (period_in q start % d) (cycle by_week) → (n : ℕ) → is_chosen q start n ≡ false
+no_time q start d by_week fine unit some alone whole closed n = false_from_ne_true (is_chosen q start n) (λ yes.
     let candidate = (and_parts (is_candidate_in q start n) (is_placed q start (lists_none_wide q.positions) n) yes).0 in
     let both = and_parts (in_step q start n && lets_date q (day_of n)) (lets_clock q n) candidate in
-    let step = (and_parts (in_step q start n) (lets_date q (day_of n)) both.0).0 in
+    let date = and_parts (in_step q start n) (lets_date q (day_of n)) both.0 in
     let u = seconds_of q.frequency in
+    let c = cycle by_week in
     let first = period_in q start in
     let p = period_in q n in
-    let parts = stepped_parts first q.interval p step in
+    let parts = stepped_parts first q.interval p date.0 in
     let t = (p - first) / q.interval in
-    let whole = div-add-mod' (p - first) q.interval in
-    let on : p ≡ first + t * q.interval = omega (arith, whole, parts.0, parts.1) in
-    let one = ap (λ x. x % d) on ∙ rest_of d first (t * q.interval) some (rest_times d q.interval t some steps) in
-    let own = ap (λ x. x % d) (place_in q.frequency (monday_zero q.week_start) n fine unit)
-    ∙ rest_of d (n % 86_400 / u) (n / 86_400 * (86_400 / u)) some (rest_times d (86_400 / u) (n / 86_400) some days) in
-    let none = closed (n % 86_400) (omega arith) (sym own ∙ one) in
-    let no = sym both.1 ∙ sym (same_time q n) ∙ none in
+    let times = div-add-mod' (p - first) q.interval in
+    let on : p ≡ first + t * q.interval = omega (arith, times, parts.0, parts.1) in
+    let one = ap (λ x. x % d) on ∙ rest_of d first (t * q.interval) some (rest_times d q.interval t some whole.0) in
+    let own = ap (λ x. x % d) (place_in q.frequency (monday_zero q.week_start) n by_week fine unit)
+    ∙ rest_of d (n % c / u) (n / c * (c / u)) some (rest_times d (c / u) (n / c) some whole.1) in
+    let none = closed (n % c) (mod-lt n (long by_week)) (sym own ∙ one) in
+    let may = let_may by_week (lets_date q (day_of n)) (lets_clock q n) date.1 both.1 in
+    let no = sym may ∙ sym (let_again q n fine by_week alone) ∙ none in
     absurd cc)
+  where
+    long : (b : Bool) → 0 < cycle b
+    long true = omega arith
+    long false = omega arith
 
 -- so a walk finds nothing
 pub none_wanted : (q : EffectiveRule) (start : ℕ) (o : Option ℕ) (place : ℕ) {stop : ℕ} → stop ≤ rules_end →

@@ -7,7 +7,7 @@ use Rattle.ics_fields.specs.declared.ordinals.WideOrdinals.{WideOrdinals}
 use Rattle.ics_fields.specs.Sets.{contains, contains_wide}
 use Rattle.ics_fields.specs.Ordinals.{lists_none, lists_none_wide}
 use Rattle.ics_period.specs.declared.effective_rule.EffectiveRule.{EffectiveRule}
-use Rattle.ics_period.specs.PeriodNumbers.{hour_of, minute_of, second_of}
+use Rattle.ics_period.specs.PeriodNumbers.{day_of, hour_of, minute_of, second_of}
 use Rattle.ics_period.specs.EffectiveRules.{skips_hours, skips_minutes, skips_seconds}
 use Rattle.ics_period.specs.Candidates.{lets, lets_date, lets_clock, is_stepped}
 use Rattle.ics_period.specs.DateParts.{names_weekdays_alone}
@@ -92,6 +92,15 @@ chosen_of_size q false size = count size (is_listed q.positions size)
 abbrev pub chosen_in_open : EffectiveRule → ℕ
 chosen_in_open q = chosen_of_size q (lists_none_wide q.positions) (size_of_open q)
 
--- the rule allows no time before a second of the day, of those in the units of a day whose numbers leave a rest by a divisor
-abbrev pub IsClosedTo : EffectiveRule → ℕ → ℕ → ℕ → ℕ → Type 0
-IsClosedTo q unit divisor rest before = (m : ℕ) → m < before → m / unit % divisor ≡ rest → lets_clock q m ≡ false
+-- the seconds after which the times of a rule repeat or, by week, its times and weekdays
+abbrev pub cycle : Bool → ℕ
+cycle true = 604_800
+cycle false = 86_400
+
+-- a rule allows the time of local n and, by week, its day
+abbrev pub may_let : EffectiveRule → Bool → ℕ → Bool
+may_let q by_week n = (not by_week || lets_date q (day_of n)) && lets_clock q n
+
+-- so it allows no local before one, of those in the units whose numbers leave a rest by a divisor
+abbrev pub IsClosedTo : EffectiveRule → Bool → ℕ → ℕ → ℕ → ℕ → Type 0
+IsClosedTo q by_week unit divisor rest before = (m : ℕ) → m < before → m / unit % divisor ≡ rest → may_let q by_week m ≡ false
