@@ -7,7 +7,7 @@ ghost use Rattle.ics_rule.specs.Inner.Rounds.{seconds_of};
 ghost use Rattle.ics_rule.specs.Inner.OpenPeriods.{size_of_open, listed_in_month, listed_in_year, on_weekdays, most_days, cycle, may_let, IsClosedTo};
 ghost use Rattle.ics_fields.specs.Locals.{calendar_end};
 
-use crate::pass::{next_open, next_open_second};
+use crate::pass::{next_allowed, next_open_second};
 use crate::rounds::seconds_of;
 use crate::search::Search;
 use ics_fields::{BitSet, Frequency, Ordinals, WideBitSet};
@@ -177,7 +177,7 @@ fn next_let(parts: &EffectiveRule, from: u64, by_week: bool) -> u64
     ensures none { (m : ℕ) → from ≤ m → m < result → may_let parts.now by_week m ≡ false }
 {
     if by_week {
-        next_open(parts, from, 604_800, true)
+        next_allowed(parts, from, 604_800)
     } else {
         next_open_second(parts, from)
     }

@@ -3,14 +3,16 @@ ghost use Rattle.std.specs.Prelude.{◌≡◌, ℕ, ◌<◌, ◌≤◌, ◌+◌,
 ghost use Rattle.ics_period.specs.Candidates.{is_stepped, lets_date, lets_clock, period_in};
 ghost use Rattle.ics_rule.specs.Inner.Searches.{NoneLetIn, IsNextOpen};
 ghost use Rattle.ics_period.specs.PeriodNumbers.{day_before, rules_end};
+ghost use Rattle.ics_period.specs.NearDays.{AreNear};
+ghost use Rattle.ics_fields.specs.Days.{days_before_year};
 ghost use Rattle.ics_fields.specs.Locals.{calendar_end};
 
 use crate::search::Search;
 use crate::walk::next_step;
 use ics_fields::Frequency;
 use ics_period::{
-    EffectiveRule, RecurrencePeriod, civil_at, clock_set, first_local, lets, lets_date,
-    month_length, next_second, period_of, skips_hours,
+    EffectiveRule, NearDays, RecurrencePeriod, civil_at, clock_set, first_local, lets, lets_date,
+    lists_days, month_length, next_second, period_of, skips_hours,
 };
 
 /// How many days from one on are in a month that BYMONTH does not allow.
@@ -31,6 +33,7 @@ pub(crate) fn days_of_closed_month(parts: &EffectiveRule, day: u32) -> u32
 }
 
 /// How many days from one on a rule does not allow, as far as one look tells. Single days are tested only if `by_days`.
+#[inline]
 fn days_out(parts: &EffectiveRule, day: u32, by_days: bool) -> u32
     requires { day ≤ day_before 9_999 }
     ensures none { (j : ℕ) → j < result → lets_date parts.now (day + j) ≡ false }
@@ -46,23 +49,69 @@ fn days_out(parts: &EffectiveRule, day: u32, by_days: bool) -> u32
     }
 }
 
+/// The same, for a day of which or of a later year the days near those that the rule allows are found, or for any other.
+fn days_out_near(parts: &EffectiveRule, near: &NearDays, day: u32, by_days: bool) -> u32
+    requires day { day ≤ days_before_year 9_801 }
+    requires near { AreNear parts.now near.now }
+    requires high { day < near.now.end }
+    ensures none { (j : ℕ) → j < result → lets_date parts.now (day + j) ≡ false }
+    ensures most { result ≤ 384 }
+{
+    let out = near.days_out(day);
+    if out > 0 {
+        out
+    } else {
+        days_out(parts, day, by_days)
+    }
+}
+
 /// Days of the calendar's 400 years, after which the days that a rule allows repeat.
 const CALENDAR_ROUND: u32 = 146_097;
+
+/// The first day from one on that a rule may allow; with `by_days` it allows that day. The search ends at `end`, and after a round of the
+/// calendar without such a day. With `by_days` only such days of a year are tested as a part lists, if there is one.
+fn next_far_day(parts: &EffectiveRule, day: u32, end: u32, by_days: bool) -> u32
+    requires day { day ≤ end }
+    requires end { end ≤ days_before_year 9_801 }
+    ensures low { day ≤ result }
+    ensures high { result ≤ end + 384 }
+    ensures none { (e : ℕ) → day ≤ e → e < result → lets_date parts.now e ≡ false }
+{
+    let round = day + CALENDAR_ROUND;
+    let by_year = by_days && lists_days(parts);
+    let mut near = NearDays::new(if by_year { 0 } else { u32::MAX });
+    let mut day = day;
+    while day < end {
+        if day >= round {
+            return end;
+        }
+        near.turn_to(parts, day);
+        let out = days_out_near(parts, &near, day, by_days);
+        if out == 0 {
+            return day;
+        }
+        day += out;
+    }
+    day
+}
+
+/// So many days are tested one by one before those of whole years are found.
+const A_SHORT_PASS: u32 = 64;
 
 /// The first day from one on that a rule may allow; with `by_days` it allows that day. The search ends at `end`, and after a round of the
 /// calendar without such a day.
 fn next_open_day(parts: &EffectiveRule, day: u32, end: u32, by_days: bool) -> u32
     requires day { day ≤ end }
-    requires end { end ≤ day_before 9_999 }
+    requires end { end ≤ days_before_year 9_801 }
     ensures low { day ≤ result }
-    ensures high { result ≤ end + 32 }
+    ensures high { result ≤ end + 384 }
     ensures none { (e : ℕ) → day ≤ e → e < result → lets_date parts.now e ≡ false }
 {
-    let round = day + CALENDAR_ROUND;
+    let far = day + A_SHORT_PASS;
     let mut day = day;
     while day < end {
-        if day >= round {
-            return end;
+        if day >= far {
+            return next_far_day(parts, day, end, by_days);
         }
         let out = days_out(parts, day, by_days);
         if out == 0 {
@@ -105,6 +154,36 @@ pub(crate) fn next_open(parts: &EffectiveRule, n: u64, end: u64, by_days: bool) 
     } else {
         next_open_second(parts, n)
     }
+}
+
+/// The first local from one on whose time a rule allows, or the end of its day; if FREQ is DAILY or coarser, that one.
+fn next_time(parts: &EffectiveRule, n: u64) -> u64
+    requires { n < calendar_end }
+    ensures low { n ≤ result }
+    ensures high { result ≤ n + 86400 }
+    ensures none { NoneLetIn parts.now n result }
+{
+    if skips_hours(parts.frequency) {
+        n
+    } else {
+        next_open_second(parts, n)
+    }
+}
+
+/// The first local from one on whose day a rule allows and, if FREQ is finer than DAILY, whose time too. The search ends at `end`, and after a
+/// round of the calendar without such a day.
+pub(crate) fn next_allowed(parts: &EffectiveRule, n: u64, end: u64) -> u64
+    requires local { n < end }
+    requires end { end ≤ rules_end }
+    ensures low { n ≤ result }
+    ensures high { result < calendar_end }
+    ensures none { NoneLetIn parts.now n result }
+{
+    let at = next_time(parts, n);
+    if at >= end {
+        return at;
+    }
+    next_open(parts, at, end, true)
 }
 
 /// Whether no period is skipped: each year is looked at, and each month if BYMONTH is absent.

@@ -8,7 +8,7 @@ ghost use Rattle.ics_period.specs.PeriodNumbers.{rules_end};
 
 use crate::cursor::{Cursor, RULES_END};
 use crate::never::has_no_time;
-use crate::pass::next_open;
+use crate::pass::next_allowed;
 use crate::search::Search;
 use crate::walk::next_step;
 use ics_period::{EffectiveRule, first_local, period_of};
@@ -43,7 +43,7 @@ fn next_by_date(search: &Search<'_>, from: u64) -> u64
         if at >= RULES_END {
             return at;
         }
-        let open = next_open(search.parts, at, RULES_END, true);
+        let open = next_allowed(search.parts, at, RULES_END);
         let begin = begin_of_step(search, open);
         if begin <= open {
             return open;

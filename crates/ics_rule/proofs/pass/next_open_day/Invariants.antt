@@ -5,7 +5,7 @@ use Rattle.ics_rule.proofs.pass.next_open_day.Given as goal
 abbrev pub invariant-loop-day : goal.invariant-loop-day
 invariant-loop-day l = record {
   low : l.fn.day ≤ l.day;
-  high : l.day ≤ l.end + 32;
+  high : l.day ≤ l.end + 384;
   none : (e : ℕ) → l.fn.day ≤ e → e < l.day → lets_date l.parts e ≡ false;
 }
 
