@@ -1,5 +1,4 @@
-use Rattle.std.proofs.Common.{◌≡◌, ◌/◌, ◌%◌, ◌<◌, ◌≤◌, ◌&&◌, not, true, ap, sym, ◌∙◌, arith}
-use Rattle.ics_period.specs.DateParts.{names_weekdays_alone}
+use Rattle.std.proofs.Common.{◌≡◌, ◌/◌, ◌%◌, ◌<◌, ◌≤◌, ◌&&◌, not, ap, sym, ◌∙◌, arith}
 use Rattle.ics_rule.specs.Inner.Rounds.{seconds_of}
 use Rattle.ics_rule.specs.Inner.OpenPeriods.{cycle}
 use Rattle.ics_rule.proofs.NeverLemmas.{no_time}
