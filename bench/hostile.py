@@ -170,6 +170,7 @@ EACH_OTHER_MINUTE = [part('STANDARD', '00010101T000000', '+0000', after, 'RRULE:
                      for after, minutes in (('+2359', EACH), ('-2359', EVEN))]
 HOURS_OF_MONDAY = [part('STANDARD', '00010101T000000', '-2359', '+2359', 'RRULE:FREQ=YEARLY;BYDAY=MO;BYHOUR=0,1,2;BYSECOND=' + EACH)]
 SELDOM = 'FREQ=DAILY;COUNT=4294967295;INTERVAL=1009;BYWEEKNO=1'
+AGES = ['0001-01-05', '3570000d', '--every-day', '--limit', '1']
 QUARTER = ['2024-07-01', '92d', '--limit', '1']
 EXCLUDED = 'EXDATE;VALUE=DATE:' + ','.join('2024%02d%02d' % (month, day) for month in (7, 8, 9) for day in range(1, 32 - month // 9))
 FAR = 'RDATE;TZID=odd:' + ','.join('%04d0701T120000' % year for year in range(2100, 8100, 150))
@@ -184,8 +185,8 @@ ROWS = [
     ('seconds without an end beside it, limit 1', lambda: rules(1, 'FREQ=SECONDLY', 'RDATE;VALUE=PERIOD:00010101T000000Z/20240801T000000Z'),
      [*DAY, '--limit', '1'], 1, 32),
     ('seconds that have not started, limit 1', lambda: rules(1, 'FREQ=SECONDLY', LONG), [*DAY, '--notstarted', '--limit', '1'], 1, 32),
-    ('two events before millions of days', lambda: calendar(once('00010102')), ['0001-01-05', '3570000d', '--every-day', '--limit', '1'], 1, 32),
-    ('two events at their end', lambda: calendar(once('97980102')), ['0001-01-05', '3570000d', '--every-day', '--limit', '1'], 1, 32),
+    ('two events before millions of days', lambda: calendar(once('00010102')), AGES, 1, 32),
+    ('two events at their end', lambda: calendar(once('97980102')), AGES, 1, 32),
     ('minutes of a hundred years, each day, limit 1', lambda: rules(1, 'FREQ=MINUTELY', LONG), [*DAY, '--every-day', '--limit', '1'], 1, 32),
     ('the same in New York', lambda: rules(1, 'FREQ=MINUTELY', LONG), [*DAY, '--every-day', '--limit', '1', *NEW_YORK], 1, 32),
     ('minutes that have not started, each day', lambda: rules(1, 'FREQ=MINUTELY', LONG), [*DAY, '--every-day', '--notstarted'], 1, 32),
@@ -193,6 +194,8 @@ ROWS = [
     ('the same with COUNT', lambda: rules(1, ODD_SECONDS + ';COUNT=9', LONG), DAY, 1, 32),
     ('8 in no week of their months', lambda: rules(8, 'FREQ=DAILY;' + LATE), ['0001-01-02', '9700-01-01'], 1, 32),
     ('80 in no week of their months', lambda: rules(80, 'FREQ=DAILY;' + LATE), ['0001-01-02', '9700-01-01'], 8, 32),
+    ('8 on the 1st and a fifth Monday, each day', lambda: rules(8, 'FREQ=MONTHLY;BYMONTHDAY=1;BYDAY=5MO'), AGES, 8, 32),
+    ('6 at one second in 86,399 days, each day', lambda: rules(6, 'FREQ=SECONDLY;INTERVAL=86399;BYMONTHDAY=1;' + by('1', '1', '1')), AGES, 8, 32),
     ('one in 1,009 days, COUNT, each day', lambda: rules(1, SELDOM.replace('4294967295', '9')), ['2024-01-01', '366d', '--every-day'], 1, 32),
     ('82 on leap days in steps of 59 seconds, COUNT, in 9700',
      lambda: rules(82, 'FREQ=SECONDLY;INTERVAL=59;BYYEARDAY=366;BYHOUR=1;COUNT=999999'), ['9700-01-01', '1d', '--limit', '1'], 8, 32),
