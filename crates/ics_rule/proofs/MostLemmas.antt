@@ -29,7 +29,7 @@ use Rattle.ics_period.proofs.PeriodLemmas.{begun, begins, before_first, before_n
 use Rattle.ics_period.proofs.WeekLemmas.{year_day_is}
 use Rattle.ics_period.proofs.RankLemmas.{count_flat}
 use Rattle.ics_rule.specs.Inner.Rounds.{seconds_of}
-use Rattle.ics_rule.specs.Inner.OpenPeriods.{lets_own, lets_within, size_of_open, listed_in_month, listed_in_year, weekly, most_days}
+use Rattle.ics_rule.specs.Inner.OpenPeriods.{lets_own, lets_within, size_of_open, listed_in_month, listed_in_year, of_weekdays, most_days}
 use Rattle.ics_rule.proofs.RoundLemmas.{date_alike}
 use Rattle.ics_rule.proofs.EachLemmas.{clock_split, within_at, in_period, size_daily}
 
@@ -182,6 +182,27 @@ month_place e =
       omega (arith, month_size p, size, ap month_start same, ap (λ z. month_start (suc z)) same),
     )
 
+-- by its weekdays a rule without BYYEARDAY allows no fewer days
+module _ (q : EffectiveRule) (absent : lists_none_wide q.year_days ≡ true) where
+  pub alone : names_weekdays_alone (of_weekdays q) ≡ true
+  alone = rw absent refl
+
+  pub weekday_open : (e : ℕ) → lets_date q e ≡ true → lets_date (of_weekdays q) e ≡ true
+  weekday_open e is = by (lists_no_weekday q.weekdays || contains q.weekdays.plain (weekday_of e)) refl
+    where
+      or_last : (a b c : Bool) → c ≡ false → (a || b || not c) ≡ true
+      or_last a b c h = grind arith
+
+      numbered : (lists_no_weekday q.weekdays || contains q.weekdays.plain (weekday_of e)) ≡ false → (c : Bool)
+          → lists_none (numbers_of q.weekdays (weekday_of e)) ≡ c → lets_date (of_weekdays q) e ≡ true
+      numbered day true none = let no = sym is ∙ weekday_out q e day none in absurd cc
+      numbered day false some = weekdays_alone (of_weekdays q) e alone
+          ∙ or_last (lists_no_weekday q.weekdays) (contains q.weekdays.plain (weekday_of e)) (lists_none (numbers_of q.weekdays (weekday_of e))) some
+
+      by : (b : Bool) → (lists_no_weekday q.weekdays || contains q.weekdays.plain (weekday_of e)) ≡ b → lets_date (of_weekdays q) e ≡ true
+      by true day = weekday_in (of_weekdays q) e day alone
+      by false day = numbered day (lists_none (numbers_of q.weekdays (weekday_of e))) refl
+
 -- its days that the rule allows
 module _ (q : EffectiveRule) (a : ℕ) where
   abbrev is_open : ℕ → Bool
@@ -267,46 +288,32 @@ module _ (q : EffectiveRule) (a : ℕ) where
           count_mono (len + 1) 367 back (omega (arith, short)),
         )
 
-  -- where a rule names weekdays alone, in each week at most as many as under WEEKLY
-  module _ (alone : names_weekdays_alone q ≡ true) where
-    to_weekly : (e : ℕ) → lets_date q e ≡ true → lets_date (weekly q) e ≡ true
-    to_weekly e is = by (lists_no_weekday q.weekdays || contains q.weekdays.plain (weekday_of e)) refl
-      where
-        or_last : (a b c : Bool) → c ≡ false → (a || b || not c) ≡ true
-        or_last a b c h = grind arith
-
-        numbered : (lists_no_weekday q.weekdays || contains q.weekdays.plain (weekday_of e)) ≡ false → (c : Bool)
-            → lists_none (numbers_of q.weekdays (weekday_of e)) ≡ c → lets_date (weekly q) e ≡ true
-        numbered day true none = let no = sym is ∙ weekday_out q e day none in absurd cc
-        numbered day false some = weekdays_alone (weekly q) e alone
-            ∙ or_last (lists_no_weekday q.weekdays) (contains q.weekdays.plain (weekday_of e)) (lists_none (numbers_of q.weekdays (weekday_of e))) some
-
-        by : (b : Bool) → (lists_no_weekday q.weekdays || contains q.weekdays.plain (weekday_of e)) ≡ b → lets_date (weekly q) e ≡ true
-        by true day = weekday_in (weekly q) e day alone
-        by false day = numbered day (lists_none (numbers_of q.weekdays (weekday_of e))) refl
-
-    weeks_of : (k : ℕ) → count (7 * k) (λ j. lets_date (weekly q) (a + j)) ≡ k * count 7 (lets_date (weekly q))
+  -- without BYYEARDAY, in each week at most as many as the weekdays allow
+  module _ (absent : lists_none_wide q.year_days ≡ true) where
+    weeks_of : (k : ℕ) → count (7 * k) (λ j. lets_date (of_weekdays q) (a + j)) ≡ k * count 7 (lets_date (of_weekdays q))
     weeks_of zero =
-        let p = λ (j : ℕ). lets_date (weekly q) (a + j) in
+        let p = λ (j : ℕ). lets_date (of_weekdays q) (a + j) in
         let none = count-none 0 p (λ m l. absurd (omega (arith, l))) in
         let empty = ap (λ x. count x p) (let e : 7 * 0 ≡ 0 = omega arith in e) in
         omega (arith, none, empty)
     weeks_of (suc k) =
         let before = weeks_of k in
-        let p = λ (j : ℕ). lets_date (weekly q) (a + j) in
+        let p = λ (j : ℕ). lets_date (of_weekdays q) (a + j) in
         let sum = ap (λ x. count x p) (let e : 7 * suc k ≡ 7 * k + 7 = omega arith in e) ∙ count-add (7 * k) 7 p in
-        let one = count-same 7 (λ j. p (7 * k + j)) (λ j. lets_date (weekly q) (a + 7 * k + j))
-        (λ j l. ap (lets_date (weekly q)) (let e : a + (7 * k + j) ≡ a + 7 * k + j = omega arith in e)) in
-        let any = count_cycle 7 (lets_date (weekly q)) (λ m. date_alike (weekly q) alone (omega arith) (m + 7) m (inr (omega arith))) (a + 7 * k) in
+        let one = count-same 7 (λ j. p (7 * k + j)) (λ j. lets_date (of_weekdays q) (a + 7 * k + j))
+        (λ j l. ap (lets_date (of_weekdays q)) (let e : a + (7 * k + j) ≡ a + 7 * k + j = omega arith in e)) in
+        let any = count_cycle 7 (lets_date (of_weekdays q))
+        (λ m. date_alike (of_weekdays q) (alone q absent) (omega arith) (m + 7) m (inr (omega arith))) (a + 7 * k) in
         omega (arith, before, sum, one, any)
 
-    on_weeks : (weeks : ℕ) → count (a + 7 * weeks) is_open ≤ weeks * count 7 (lets_date (weekly q))
+    on_weeks : (weeks : ℕ) → count (a + 7 * weeks) is_open ≤ weeks * count 7 (lets_date (of_weekdays q))
     on_weeks weeks =
-        let fewer = count_fewer (7 * weeks) (λ k. lets_date q (a + k)) (λ k. lets_date (weekly q) (a + k)) (λ k l is. to_weekly (a + k) is) in
+        let fewer = count_fewer (7 * weeks) (λ k. lets_date q (a + k)) (λ k. lets_date (of_weekdays q) (a + k))
+        (λ k l is. weekday_open q absent (a + k) is) in
         omega (arith, from_first (7 * weeks), fewer, weeks_of weeks)
 
-  among : (len weeks most : ℕ) → len ≤ 7 * weeks → count (a + len) is_open ≤ most → (b : Bool) → names_weekdays_alone q ≡ b
-      → count (a + len) is_open ≤ cond b (min most (weeks * count 7 (lets_date (weekly q)))) most
+  among : (len weeks most : ℕ) → len ≤ 7 * weeks → count (a + len) is_open ≤ most → (b : Bool) → lists_none_wide q.year_days ≡ b
+      → count (a + len) is_open ≤ cond b (min most (weeks * count 7 (lets_date (of_weekdays q)))) most
   among len weeks most inside few false e = few
   among len weeks most inside few true e =
       let up = count_mono (a + len) (a + 7 * weeks) is_open (omega (arith, inside)) in
@@ -329,7 +336,7 @@ open_days : (q : EffectiveRule) (x len : ℕ) (f : Frequency) → q.frequency �
 unfolding days
 open_days q x len Weekly e long end short =
     let a = first_day Weekly (monday_zero q.week_start) x in
-    among q a len 1 7 short (let most = at_most q a len in omega (arith, most, short)) (names_weekdays_alone q) refl
+    among q a len 1 7 short (let most = at_most q a len in omega (arith, most, short)) (lists_none_wide q.year_days) refl
 open_days q x len Monthly e long end short =
     let w = monday_zero q.week_start in
     let a = first_day Monthly w x in
@@ -338,7 +345,7 @@ open_days q x len Monthly e long end short =
     let here = λ (k : ℕ) (l : k < len). (let day : (a + k) * 86_400 / 86_400 ≡ a + k = omega arith in
     sym (ap month_number day) ∙ period_at Monthly w x (a + k) long (omega arith) (omega (arith, l, end))) in
     among q a len 5 (listed_in_month q.month_days) (omega (arith, short))
-    (in_month q a x len begin (omega (arith, end, next)) here short (lists_none q.month_days) refl) (names_weekdays_alone q) refl
+    (in_month q a x len begin (omega (arith, end, next)) here short (lists_none q.month_days) refl) (lists_none_wide q.year_days) refl
 open_days q x len Yearly e long end short =
     let w = monday_zero q.week_start in
     let a = first_day Yearly w x in
@@ -347,7 +354,7 @@ open_days q x len Yearly e long end short =
     let here = λ (k : ℕ) (l : k < len). (let day : (a + k) * 86_400 / 86_400 ≡ a + k = omega arith in
     sym (ap year_of day) ∙ period_at Yearly w x (a + k) long (omega arith) (omega (arith, l, end))) in
     among q a len 53 (listed_in_year q.year_days) (omega (arith, short))
-    (in_year q a x len begin (omega (arith, end, next)) here short (lists_none_wide q.year_days) refl) (names_weekdays_alone q) refl
+    (in_year q a x len begin (omega (arith, end, next)) here short (lists_none_wide q.year_days) refl) (lists_none_wide q.year_days) refl
 open_days q x len f e long end short = grind arith
 
 -- the times of a day

@@ -4,16 +4,15 @@ ghost use Rattle.ics_fields.specs.Sets.{contains_wide};
 ghost use Rattle.ics_period.specs.Ranks.{count, size, is_chosen};
 ghost use Rattle.ics_period.specs.Candidates.{lets, lets_date, lets_clock};
 ghost use Rattle.ics_rule.specs.Inner.Rounds.{seconds_of};
-ghost use Rattle.ics_rule.specs.Inner.OpenPeriods.{size_of_open, listed_in_month, listed_in_year, on_weekdays, most_days, cycle, may_let, IsClosedTo};
+ghost use Rattle.ics_rule.specs.Inner.OpenPeriods.{size_of_open, listed_in_month, listed_in_year, on_weekdays, most_days};
+ghost use Rattle.ics_rule.specs.Inner.OpenPeriods.{cycle, of_weekdays, may_let, IsClosedTo};
 ghost use Rattle.ics_fields.specs.Locals.{calendar_end};
 
 use crate::pass::{next_allowed, next_open_second};
 use crate::rounds::seconds_of;
 use crate::search::Search;
 use ics_fields::{BitSet, Frequency, Ordinals, WideBitSet};
-use ics_period::{
-    EffectiveRule, PlacesPart, clock_set, lets_date, members_below, names_weekdays_alone,
-};
+use ics_period::{EffectiveRule, PlacesPart, clock_set, lets_date, members_below};
 
 /// How many values of one unit of the clock a part allows.
 fn readings(part: BitSet, size: u8) -> u64
@@ -49,19 +48,29 @@ fn open_weekdays(parts: &EffectiveRule) -> u64
     total
 }
 
-/// How many of a number of days, which so many weeks have, the weekdays allow at most that a rule names alone. Under WEEKLY the numbers that they
-/// are listed with do not count.
+/// A rule of seconds without BYMONTH, BYMONTHDAY and BYWEEKNO. Under SECONDLY a weekday with a number means the weekday.
+fn of_weekdays(parts: &EffectiveRule) -> EffectiveRule
+    ensures { result ≡ of_weekdays parts.now }
+{
+    let mut rule = *parts;
+    rule.frequency = Frequency::Secondly;
+    rule.months = BitSet::new();
+    rule.month_days = Ordinals::new();
+    rule.weeks = Ordinals::new();
+    rule
+}
+
+/// How many of a number of days, which so many weeks have, the weekdays of a rule without BYYEARDAY allow at most.
 fn on_weekdays(parts: &EffectiveRule, weeks: u64, days: u64) -> u64
     requires { weeks ≤ 53 }
     ensures value { result ≡ on_weekdays parts.now weeks days }
     ensures bound { result ≤ days }
 {
-    if !names_weekdays_alone(parts) {
-        return days;
+    if parts.year_days.is_empty() {
+        days.min(weeks * open_weekdays(&of_weekdays(parts)))
+    } else {
+        days
     }
-    let mut weekly = *parts;
-    weekly.frequency = Frequency::Weekly;
-    days.min(weeks * open_weekdays(&weekly))
 }
 
 /// How many days of a month BYMONTHDAY lists at most.
@@ -208,8 +217,8 @@ fn is_closed(parts: &EffectiveRule, by_week: bool, unit: u64, divisor: u64, rest
     true
 }
 
-/// Whether no step has an hour, minute and second that are allowed, on a weekday that is, if the rule restricts no other part of the date. That is
-/// known as far as a common divisor tells of the interval and of the periods of a day or week: by it all steps leave the same rest.
+/// Whether no step has an hour, minute and second that are allowed, on a weekday that is. That is known as far as a common divisor tells of the
+/// interval and of the periods of a day or, if there is BYDAY and no BYYEARDAY, of a week: by it all steps leave the same rest.
 pub(crate) fn has_no_time(search: &Search<'_>) -> bool
     ensures { result ≡ true → (n : ℕ) → n < calendar_end → is_chosen search.now.parts.now search.now.start n ≡ false }
 {
@@ -218,7 +227,7 @@ pub(crate) fn has_no_time(search: &Search<'_>) -> bool
     if unit == 0 || unit > 86_400 {
         return false;
     }
-    let by_week = names_weekdays_alone(parts) & !parts.weekdays.is_empty();
+    let by_week = !parts.weekdays.is_empty() & parts.year_days.is_empty();
     let periods = cycle(by_week) / unit;
     let interval = parts.interval as u64;
     let divisor = common_divisor(interval, periods);
@@ -228,5 +237,6 @@ pub(crate) fn has_no_time(search: &Search<'_>) -> bool
     if interval % divisor > 0 || periods % divisor > 0 {
         return false;
     }
-    is_closed(parts, by_week, unit, divisor, search.first % divisor)
+    let rest = search.first % divisor;
+    is_closed(&of_weekdays(parts), by_week, unit, divisor, rest)
 }

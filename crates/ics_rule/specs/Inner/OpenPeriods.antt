@@ -5,12 +5,11 @@ use Rattle.ics_fields.specs.declared.frequency.Frequency.TheVariants.{Secondly, 
 use Rattle.ics_fields.specs.declared.ordinals.Ordinals.{Ordinals}
 use Rattle.ics_fields.specs.declared.ordinals.WideOrdinals.{WideOrdinals}
 use Rattle.ics_fields.specs.Sets.{contains, contains_wide}
-use Rattle.ics_fields.specs.Ordinals.{lists_none, lists_none_wide}
+use Rattle.ics_fields.specs.Ordinals.{no_ordinals, lists_none, lists_none_wide}
 use Rattle.ics_period.specs.declared.effective_rule.EffectiveRule.{EffectiveRule}
 use Rattle.ics_period.specs.PeriodNumbers.{day_of, hour_of, minute_of, second_of}
 use Rattle.ics_period.specs.EffectiveRules.{skips_hours, skips_minutes, skips_seconds}
 use Rattle.ics_period.specs.Candidates.{lets, lets_date, lets_clock, is_stepped}
-use Rattle.ics_period.specs.DateParts.{names_weekdays_alone}
 use Rattle.ics_period.specs.Ranks.{count}
 use Rattle.ics_period.specs.RecurrencePeriods.{is_listed}
 use Rattle.ics_rule.specs.Inner.Rounds.{seconds_of}
@@ -66,13 +65,13 @@ listed_in_month p = if lists_none p then 31 else count 32 (contains p.front) + c
 abbrev pub listed_in_year : WideOrdinals → ℕ
 listed_in_year p = if lists_none_wide p then 366 else count 367 (contains_wide p.front) + count 367 (contains_wide p.back)
 
--- a rule with another frequency, under which a weekday with a number means the weekday
-abbrev pub weekly : EffectiveRule → EffectiveRule
-weekly q = record q { frequency = Weekly }
+-- a rule of seconds without the parts for months, days of a month and weeks. Under SECONDLY a weekday with a number means the weekday
+abbrev pub of_weekdays : EffectiveRule → EffectiveRule
+of_weekdays q = record q { frequency = Secondly; months = 0; month_days = no_ordinals; weeks = no_ordinals }
 
--- how many of a number of days, which so many weeks have, a rule allows at most that names weekdays alone
+-- how many of a number of days, which so many weeks have, the weekdays of a rule without BYYEARDAY allow at most
 abbrev pub on_weekdays : EffectiveRule → ℕ → ℕ → ℕ
-on_weekdays q weeks days = if names_weekdays_alone q then min days (weeks * count 7 (lets_date (weekly q))) else days
+on_weekdays q weeks days = if lists_none_wide q.year_days then min days (weeks * count 7 (lets_date (of_weekdays q))) else days
 
 -- a number of days that the rule allows at most in one period, if it is longer than a day
 abbrev pub most_days : Frequency → EffectiveRule → ℕ

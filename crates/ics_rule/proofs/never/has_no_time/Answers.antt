@@ -8,7 +8,7 @@ pub returns : goal.returns
 returns c = λ is n inside.
     let q = c.args.search.now.parts.now in
     let d = c.common_divisor-divisor.result in
-    let by_week = c.names_weekdays_alone.result && not c.is_empty.result in
+    let by_week = not c.is_empty.result && c.is_empty-2.result in
     let unit = c.seconds_of-unit.ensures.value in
     let fine : 0 < seconds_of q.frequency = omega (arith, unit, c.if-unit-eq0.false) in
     let short : seconds_of q.frequency ≤ 86_400 = omega (arith, unit, c.if-unit-gt86400.false) in
@@ -17,4 +17,4 @@ returns c = λ is n inside.
     let periods : (c.cycle.result / c.seconds_of-unit.result) % d ≡ 0 = grind arith in
     no_time q c.args.search.now.start d by_week fine short some (λ e. grind arith)
     (steps, ap (λ x. cycle by_week / x % d) (sym unit) ∙ ap (λ x. x / c.seconds_of-unit.result % d) (sym c.cycle.ensures.value) ∙ periods)
-    (rw (c.args.search.now.of_start, unit) at (c.is_closed.ensures is)) n
+    (rw (c.args.search.now.of_start, unit, c.of_weekdays.ensures) at (c.is_closed.ensures is)) n
