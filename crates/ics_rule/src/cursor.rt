@@ -175,7 +175,7 @@ impl Cursor {
         self.place = self.place.max(to.number());
     }
 
-    /// A local before which the rule keeps none from the place on, as far as the parts of the date tell and the period that was looked at last.
+    /// A local before which the rule keeps none from the place on, as far as the parts of the rule tell and the period that was looked at last.
     /// No period is looked at.
     pub fn quiet(&self, rule: &Rule) -> Local
         requires own { IsCursorOf rule.now self.now }
