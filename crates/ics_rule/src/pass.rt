@@ -49,8 +49,8 @@ fn days_out(parts: &EffectiveRule, day: u32, by_days: bool) -> u32
     }
 }
 
-/// The same, for a day of which or of a later year the days near those that the rule allows are found, or for any other.
-fn days_out_near(parts: &EffectiveRule, near: &NearDays, day: u32, by_days: bool) -> u32
+/// The same, and only such days of the year are tested as are near those that the rule allows.
+fn days_out_near(parts: &EffectiveRule, near: &NearDays, day: u32) -> u32
     requires day { day ≤ days_before_year 9_801 }
     requires near { AreNear parts.now near.now }
     requires high { day < near.now.end }
@@ -61,16 +61,16 @@ fn days_out_near(parts: &EffectiveRule, near: &NearDays, day: u32, by_days: bool
     if out > 0 {
         out
     } else {
-        days_out(parts, day, by_days)
+        days_out(parts, day, true)
     }
 }
 
 /// Days of the calendar's 400 years, after which the days that a rule allows repeat.
 const CALENDAR_ROUND: u32 = 146_097;
 
-/// The first day from one on that a rule may allow; with `by_days` it allows that day. The search ends at `end`, and after a round of the
-/// calendar without such a day. With `by_days` only such days of a year are tested as a part lists, if there is one.
-fn next_far_day(parts: &EffectiveRule, day: u32, end: u32, by_days: bool) -> u32
+/// The first day from one on that a rule allows. Only such days of a year are tested as a part lists. The search ends at `end`, and after a round
+/// of the calendar without such a day.
+fn next_near_day(parts: &EffectiveRule, day: u32, end: u32) -> u32
     requires day { day ≤ end }
     requires end { end ≤ days_before_year 9_801 }
     ensures low { day ≤ result }
@@ -78,15 +78,14 @@ fn next_far_day(parts: &EffectiveRule, day: u32, end: u32, by_days: bool) -> u32
     ensures none { (e : ℕ) → day ≤ e → e < result → lets_date parts.now e ≡ false }
 {
     let round = day + CALENDAR_ROUND;
-    let by_year = by_days && lists_days(parts);
-    let mut near = NearDays::new(if by_year { 0 } else { u32::MAX });
+    let mut near = NearDays::new(0);
     let mut day = day;
     while day < end {
         if day >= round {
             return end;
         }
         near.turn_to(parts, day);
-        let out = days_out_near(parts, &near, day, by_days);
+        let out = days_out_near(parts, &near, day);
         if out == 0 {
             return day;
         }
@@ -107,11 +106,18 @@ fn next_open_day(parts: &EffectiveRule, day: u32, end: u32, by_days: bool) -> u3
     ensures high { result ≤ end + 384 }
     ensures none { (e : ℕ) → day ≤ e → e < result → lets_date parts.now e ≡ false }
 {
-    let far = day + A_SHORT_PASS;
+    let round = day + CALENDAR_ROUND;
+    let mut far = day + A_SHORT_PASS;
     let mut day = day;
     while day < end {
         if day >= far {
-            return next_far_day(parts, day, end, by_days);
+            if day >= round {
+                return end;
+            }
+            if by_days && lists_days(parts) {
+                return next_near_day(parts, day, end);
+            }
+            far = round;
         }
         let out = days_out(parts, day, by_days);
         if out == 0 {

@@ -1,7 +1,7 @@
 use Rattle.std.proofs.Common.{◌-◌, ◌≡◌, ℕ, ◌<◌, ◌≤◌, ◌+◌, false}
 use Rattle.ics_period.specs.Candidates.{lets_date}
 use Rattle.ics_period.specs.NearDays.{AreNear}
-use Rattle.ics_rule.proofs.pass.next_far_day.Given as goal
+use Rattle.ics_rule.proofs.pass.next_near_day.Given as goal
 
 abbrev pub invariant-loop-day : goal.invariant-loop-day
 invariant-loop-day l = record {
