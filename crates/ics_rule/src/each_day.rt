@@ -1,21 +1,19 @@
 //! How many periods shorter than a day a rule allows, where it allows few days: those of each such day are added.
 ghost use Rattle.std.specs.Prelude.{◌≡◌, ℕ, true, false, length, slice_index_or, ◌<◌, ◌≤◌, ◌+◌, ◌*◌};
 ghost use Rattle.ics_fields.specs.Days.{days_before_year};
-ghost use Rattle.ics_period.specs.Candidates.{lets_date};
-ghost use Rattle.ics_period.specs.NearDays.{AreNear};
 ghost use Rattle.ics_period.specs.Ranks.{count};
 ghost use Rattle.ics_rule.specs.Inner.Rounds.{seconds_of};
 ghost use Rattle.ics_rule.specs.Inner.OpenPeriods.{per_day, timely_on, is_open_period, HasRests};
 
 use crate::open_periods::{A_SHORT_MONTH, steps_let_in};
-use crate::pass::days_of_closed_month;
+use crate::pass::days_out_near;
 use crate::rounds::seconds_of;
 use crate::search::Search;
-use ics_period::{EffectiveRule, NearDays, lets_date, lists_days, names_weekdays_alone};
+use ics_period::{NearDays, lets_date, lists_days, names_weekdays_alone};
 
 /// If the interval is no longer, the steps of so many days that follow each other are counted once: those of a day are as many as they were so
 /// many days before as the interval has.
-const RESTS: usize = 4_096;
+const RESTS: usize = 1_024;
 
 const A_YEAR: u64 = 366;
 
@@ -49,7 +47,7 @@ pub(crate) fn lets_few(search: &Search<'_>, from: u64) -> bool
 fn steps_on(search: &Search<'_>, day: u64) -> u64
     requires fine { 0 < seconds_of search.now.parts.now.frequency }
     requires unit { seconds_of search.now.parts.now.frequency ≤ 86400 }
-    requires day { day ≤ days_before_year 9_801 + 1 + 4096 }
+    requires day { day ≤ days_before_year 9_801 + 1 + 1024 }
     ensures value { result ≡ timely_on search.now.parts.now search.now.first day }
     ensures bound { result ≤ 86400 }
 {
@@ -93,25 +91,6 @@ fn steps_at(search: &Search<'_>, steps: &[u32], from: u64, day: u64) -> u64
     }
 }
 
-/// How many days from one on are not allowed, as far as one look tells. None is left if the first is allowed.
-fn days_off(parts: &EffectiveRule, near: &NearDays, day: u32) -> u32
-    requires day { day ≤ days_before_year 9_801 }
-    requires near { AreNear parts.now near.now }
-    requires high { day < near.now.end }
-    ensures none { (e : ℕ) → day ≤ e → e < day + result → lets_date parts.now e ≡ false }
-    ensures some { result ≡ 0 → lets_date parts.now day ≡ true }
-    ensures most { result ≤ 384 }
-{
-    let out = near.days_out(day);
-    if out > 0 {
-        out
-    } else if lets_date(parts, day) {
-        0
-    } else {
-        days_of_closed_month(parts, day).max(1)
-    }
-}
-
 /// How many periods of whole days are allowed, by a look at each day that may be.
 pub(crate) fn open_of_each(search: &Search<'_>, from: u64, before: u64) -> u64
     requires fine { 0 < seconds_of search.now.parts.now.frequency }
@@ -129,7 +108,7 @@ pub(crate) fn open_of_each(search: &Search<'_>, from: u64, before: u64) -> u64
     let mut day = from;
     while day < before {
         near.turn_to(parts, day as u32);
-        let off = days_off(parts, &near, day as u32);
+        let off = days_out_near(parts, &near, day as u32);
         if off == 0 {
             total += steps_at(search, &steps, from, day);
         }

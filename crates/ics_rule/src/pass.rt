@@ -37,6 +37,7 @@ pub(crate) fn days_of_closed_month(parts: &EffectiveRule, day: u32) -> u32
 fn days_out(parts: &EffectiveRule, day: u32, by_days: bool) -> u32
     requires { day ≤ day_before 9_999 }
     ensures none { (j : ℕ) → j < result → lets_date parts.now (day + j) ≡ false }
+    ensures some { by_days ≡ true → result ≡ 0 → lets_date parts.now day ≡ true }
     ensures most { result ≤ 32 }
 {
     if !by_days {
@@ -50,11 +51,12 @@ fn days_out(parts: &EffectiveRule, day: u32, by_days: bool) -> u32
 }
 
 /// The same, and only such days of the year are tested as are near those that the rule allows.
-fn days_out_near(parts: &EffectiveRule, near: &NearDays, day: u32) -> u32
+pub(crate) fn days_out_near(parts: &EffectiveRule, near: &NearDays, day: u32) -> u32
     requires day { day ≤ days_before_year 9_801 }
     requires near { AreNear parts.now near.now }
     requires high { day < near.now.end }
     ensures none { (j : ℕ) → j < result → lets_date parts.now (day + j) ≡ false }
+    ensures some { result ≡ 0 → lets_date parts.now day ≡ true }
     ensures most { result ≤ 384 }
 {
     let out = near.days_out(day);

@@ -47,7 +47,7 @@ timely_on q first day = count (per_day q.frequency) (λ k. is_timely q first (da
 -- the numbers of those of each day from one on, so many days as the interval has, if these are few
 abbrev pub HasRests : EffectiveRule → ℕ → ℕ → List ℕ → Type 0
 HasRests q first from steps =
-    (length steps ≡ 4_096) × (q.interval ≤ 4_096 → (k : ℕ) → k < q.interval → slice_index_or steps k 0 ≡ timely_on q first (from + k))
+    (length steps ≡ 1_024) × (q.interval ≤ 1_024 → (k : ℕ) → k < q.interval → slice_index_or steps k 0 ≡ timely_on q first (from + k))
 
 -- a period is a multiple of the interval after the first, and the rule allows a local of it
 abbrev pub is_open_period : EffectiveRule → ℕ → ℕ → Bool
