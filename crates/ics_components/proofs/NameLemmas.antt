@@ -1,6 +1,5 @@
 -- What a name of a property or a component stands for.
-use Rattle.ics_text.specs.Bytes.{upper, same_name as one_name}
-use Rattle.std.proofs.Common.{map, ap, ◌==◌, ◌≡◌, ◌≢◌, ℕ, Bool, true, false, ◌&&◌, ◌||◌, List, [], ◌∷◌, refl, rules, arith}
+use Rattle.std.proofs.Common.{◌≡◌, ◌≢◌, ℕ, Bool, true, false, ◌&&◌, ◌||◌, List, [], ◌∷◌, refl, rules, arith}
 use Rattle.std.specs.Prelude.{codes}
 use Rattle.std.specs.List.{AllByRecursion, list_any}
 use Rattle.std.specs.Str.{bytes_eq}
@@ -74,10 +73,3 @@ context-tests q w = by_component (component_of w) (tells_component w)
   where
     by_component : (c : Component) → TellsComponent w c → Tested q w c
     by_component c e = (grind arith, grind arith, grind arith)
-
--- names that compare without case are the same in upper case
-pub same-upper : (a b : List ℕ) → one_name a b ≡ bytes_eq (map upper a) (map upper b)
-same-upper [] [] = refl
-same-upper [] (y ∷ ys) = refl
-same-upper (x ∷ xs) [] = refl
-same-upper (x ∷ xs) (y ∷ ys) = ap (λ t. (upper x == upper y) && t) (same-upper xs ys)

@@ -1,5 +1,5 @@
 //! The names of properties and components, which compare without case (RFC 5545, section 3.1).
-ghost use Rattle.std.specs.Prelude.{◌≡◌, map};
+ghost use Rattle.std.specs.Prelude.{◌≡◌, ◌==◌, map};
 ghost use Rattle.std.specs.Str.{bytes_eq};
 ghost use Rattle.ics_text.specs.Bytes.{upper};
 ghost use Rattle.ics_components.specs.Names.{name_of, named_in, other_words};
@@ -35,11 +35,30 @@ pub enum Name {
     Other,
 }
 
+/// Whether two bytes are one, letters without regard to their case.
+#[inline(always)]
+fn is_one_letter(b: u8, other: u8) -> bool
+    ensures { result ≡ (upper b == upper other) }
+{
+    b == other
+        || (other.is_ascii_uppercase() && b == other + 32)
+        || (other.is_ascii_lowercase() && b == other - 32)
+}
+
 /// Whether two names are one. They compare without case.
+#[inline(always)]
 pub fn is_called(name: &[u8], other: &[u8]) -> bool
     ensures { result ≡ bytes_eq (map upper name.now) (map upper other.now) }
 {
-    name.eq_ignore_ascii_case(other)
+    if name.len() != other.len() {
+        return false;
+    }
+    for (i, b) in name.iter().enumerate() {
+        if !is_one_letter(*b, other[i]) {
+            return false;
+        }
+    }
+    true
 }
 
 /// What a property is called. An extension is not looked for among the names that are read: its name begins with an X (RFC 5545, section 3.8.8.2).

@@ -1,8 +1,15 @@
-use Rattle.std.proofs.Common.{◌∙◌}
-use Rattle.ics_text.proofs.BytesLemmas.{same_name-tells}
-use Rattle.ics_components.proofs.NameLemmas.{same-upper}
+use Rattle.std.proofs.Common.{arith}
+use Rattle.std.proofs.lemmas.Grind.{common_steps}
 use Rattle.ics_components.proofs.name.is_called.Goals as goal
 
+pub returns-then-name-other : goal.returns-then-name-other
+returns-then-name-other c = grind (arith, common_steps)
+
+pub returns-then-not-is_one_letter : goal.returns-then-not-is_one_letter
+returns-then-not-is_one_letter c = grind (arith, common_steps)
+
+pub loop-i-preserved : goal.loop-i-preserved
+loop-i-preserved c = grind (arith, common_steps)
+
 pub returns : goal.returns
-returns c =
-    same_name-tells c.eq_ignore_ascii_case.result _ _ c.eq_ignore_ascii_case.ensures.test ∙ same-upper c.args.name.now c.args.other.now
+returns c = grind (arith, common_steps)
