@@ -5,15 +5,16 @@ ghost use Rattle.ics_components.specs.declared.builder.Builder.TheVariants.{Even
 ghost use Rattle.ics_components.specs.Builders.{collected_of};
 ghost use Rattle.ics_components.specs.Lines.{Gives, Notes, is_mark, line_fault, end_fault};
 ghost use Rattle.ics_components.specs.Lines.{event_has, event_property, with_property, event_note, event_zone};
-ghost use Rattle.ics_components.specs.SecondRound.{ends_in, zone_check};
+ghost use Rattle.ics_components.specs.SecondRound.{ends_in, time_zone, zone_check};
 
 use crate::deferred_check::DeferredCheck;
-use crate::ends::{ends_badly, ends_in};
+use crate::ends::{ends_badly, ends_in, lasting};
 use crate::fault::FaultKind;
 use crate::listed::Listed;
 use crate::name::Name;
 use crate::property::Property;
 use crate::refused::Refused;
+use crate::time::{time_of, zone_check};
 use crate::tzid::{Tzid, Tzids};
 use ics_text::Content;
 use ics_values::{Duration, KeptRule, Rdate, Text, Time};
@@ -45,6 +46,19 @@ pub fn keep_first<T: Drop>(kept: &mut Option<T>, value: T)
     if kept.is_none() {
         *kept = Some(value);
     }
+}
+
+/// Keeps a time, if there is none before it, and answers the check that its time zone is known in that calendar, if it has one.
+fn keep_time(
+    kept: &mut Option<Time<Tzid>>,
+    time: Time<Tzid>,
+    calendar: u64,
+) -> Result<Option<DeferredCheck>, AllocError>
+    ensures { IfOk result (λ check. (kept.new ≡ option_or kept.old (Some time)) × (check ≡ zone_check (time_zone calendar time))) }
+{
+    let check = zone_check(&time, calendar)?;
+    keep_first(kept, time);
+    Ok(check)
 }
 
 impl EventFields {
@@ -137,9 +151,10 @@ impl EventFields {
         Ok(())
     }
 
-    /// One line more of an event in that calendar, and the check that it leaves to the second round, if there is one.
+    /// One line more of an event, by way of its property.
+    #[inline(never)]
     #[tactic(auto, unfolding(crate::specs::Lines::least_fault))]
-    pub fn line(
+    fn property_line(
         &mut self,
         alloc: Global,
         tzids: &mut Tzids,
@@ -158,6 +173,42 @@ impl EventFields {
             return Err(Refused::from(error));
         }
         Ok(check)
+    }
+
+    /// One line more of an event in that calendar, and the check that it leaves to the second round, if there is one.
+    ///
+    /// What most events have is kept without a property, which takes the room of the longest.
+    #[tactic(auto, unfolding(crate::specs::Lines::least_fault))]
+    pub fn line(
+        &mut self,
+        alloc: Global,
+        tzids: &mut Tzids,
+        calendar: u64,
+        name: Name,
+        content: &Content<'_>,
+    ) -> Result<Option<DeferredCheck>, Refused>
+        requires { is_mark name ≡ false }
+        ensures { Notes result self.new (line_fault name content.now (Event self.old)) (event_note name content.now self.old)
+            (zone_check (event_zone calendar name content.now)) }
+    {
+        let value = content.value();
+        match name {
+            Name::Uid if self.uid.is_none() => self.uid = Some(Text::of_value(alloc, value)?),
+            Name::Dtstart if self.start.is_none() => {
+                let start = time_of(alloc, tzids, content)?;
+                return Ok(keep_time(&mut self.start, start, calendar)?);
+            }
+            Name::Dtend if self.end.is_none() => {
+                let end = time_of(alloc, tzids, content)?;
+                return Ok(keep_time(&mut self.end, end, calendar)?);
+            }
+            Name::Duration if self.duration.is_none() => self.duration = Some(lasting(value)?),
+            Name::Summary => keep_first(&mut self.title, Text::of_value(alloc, value)?),
+            Name::Location => keep_first(&mut self.location, Text::of_value(alloc, value)?),
+            Name::Description => keep_first(&mut self.description, Text::of_value(alloc, value)?),
+            _ => return self.property_line(alloc, tzids, calendar, name, content),
+        }
+        Ok(None)
     }
 
     /// Judges the END of the event, and answers the check that it leaves to the second round, if there is one.
