@@ -33,7 +33,7 @@ pub(crate) fn next_step(first: u64, interval: u32, own: u64) -> u64
 }
 
 /// After this many looks in vain, a search asks whether its rule can choose anything.
-const MANY_LOOKS: u64 = 4_096;
+const MANY_LOOKS: u64 = 1_024;
 
 /// Whether a search that has looked in vain so often is known to find nothing.
 pub(crate) fn is_vain(search: &Search<'_>, looks: u64) -> bool
