@@ -35,7 +35,7 @@ pub enum Name {
     Other,
 }
 
-/// Whether two bytes are one, letters without regard to their case.
+/// Whether two bytes are one, letters without regard to their case. Where the other is written out, this is one comparison, so it is always inlined.
 #[inline(always)]
 fn is_one_letter(b: u8, other: u8) -> bool
     ensures { result ≡ (upper b == upper other) }
