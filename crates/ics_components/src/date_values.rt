@@ -23,6 +23,9 @@ pub enum Listing {
     Exdate,
 }
 
+/// How long a date with a time is, and the comma behind it: most lists are of these.
+const A_VALUE: usize = 16;
+
 /// A half of a PERIOD that is a stamp. A DATE is none.
 fn date_time(text: &[u8], zoned: bool) -> Result<Stamp, FaultKind>
     ensures { result ≡ stamp_judged (date_time_of zoned text.now) }
@@ -108,7 +111,7 @@ pub fn read_values(
     ensures { Gives result (misread (reading.Dates (values_of listing (is_some zone.now) text.now)))
         (map (rdate_in zone.now) (values_of listing (is_some zone.now) text.now)) }
 {
-    let mut values = Vec::new(alloc);
+    let mut values = Vec::with_capacity(alloc, text.len() / A_VALUE + 1)?;
     let mut least: Option<FaultKind> = None;
     'values: for value in text.split(|b| *b == b',') {
         match (listing.value(value, zone), least) {

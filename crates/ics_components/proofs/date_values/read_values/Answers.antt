@@ -5,8 +5,8 @@ use Rattle.ics_components.specs.DateValues.{value_of}
 use Rattle.ics_components.proofs.DateValueLemmas.{answers-fault, read-more, read-all}
 use Rattle.ics_components.proofs.date_values.read_values.Goals as goal
 
-pub values-preserved-in-Continue-1 : goal.values-preserved-in-Continue-1
-values-preserved-in-Continue-1 c =
+pub values-preserved-in-Continue-branch-2 : goal.values-preserved-in-Continue-branch-2
+values-preserved-in-Continue-branch-2 c =
     rw c.in_ok-push-in-Ok-default.ensures.items
     (read-more c.args.zone.now _ c.values.yielded c.in-Some.value c.values.invariant (rw c.in-Ok-default.is-0 at c.value.ensures))
 
