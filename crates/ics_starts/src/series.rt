@@ -351,12 +351,15 @@ impl<'a> Series<'a> {
         self.listed.pass(start);
     }
 
-    /// Whether a start can give an occurrence. One that is not before the window does, unless an EXDATE
-    /// removes it, and is not looked at any further.
+    /// Whether a start can give an occurrence. One that is in the window does, unless an EXDATE removes it, and is not looked
+    /// at any further; one that is behind it does not.
     fn can_give(&self, start: Start) -> bool
         requires { IsStartIn self.now.zones start }
         ensures { result ≡ false → wanted_by (clocks_in self.now.zones) self.now.window self.now.event.now self.now.since start ≡ None }
     {
+        if self.window.to <= start.moment {
+            return false;
+        }
         if self.window.from <= start.moment {
             return true;
         }
