@@ -187,6 +187,8 @@ ROWS = [
     ('seconds that have not started, limit 1', lambda: rules(1, 'FREQ=SECONDLY', LONG), [*DAY, '--notstarted', '--limit', '1'], 1, 32),
     ('two events before millions of days', lambda: calendar(once('00010102')), AGES, 1, 32),
     ('two events at their end', lambda: calendar(once('97980102')), AGES, 1, 32),
+    ('an event and a further date behind millions of days',
+     lambda: calendar(['BEGIN:VEVENT', 'UID:0@example.org', 'DTSTART:97000101T000000Z', 'RDATE:97010701T120000Z', 'END:VEVENT']), AGES, 1, 32),
     ('minutes of a hundred years, each day, limit 1', lambda: rules(1, 'FREQ=MINUTELY', LONG), [*DAY, '--every-day', '--limit', '1'], 1, 32),
     ('the same in New York', lambda: rules(1, 'FREQ=MINUTELY', LONG), [*DAY, '--every-day', '--limit', '1', *NEW_YORK], 1, 32),
     ('minutes that have not started, each day', lambda: rules(1, 'FREQ=MINUTELY', LONG), [*DAY, '--every-day', '--notstarted'], 1, 32),
