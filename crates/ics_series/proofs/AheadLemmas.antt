@@ -57,9 +57,9 @@ IsUnder files display w day p = IsOnDay files display w p × (p.day ≡ day)
 
 module _ (files : List FileSaid) (display : Clock) (w : Window) (b : Bounds) (bounded : HasOffsets display w b) where
   -- an occurrence meets what the window holds near a day under which it is shown, which is one that a clock can show there
-  pub near-under : {day : ℤ} (n : Window) → IsNearDay w b day n → (p : OnDay) → IsUnder files display w day p → Meets n p.entry
+  pub near-under : {day : ℤ} (n : Window) → IsNearDay display w b day n → (p : OnDay) → IsUnder files display w day p → Meets n p.entry
   near-under n h p q =
-      let own = subst (λ d. IsNearDay w b d n) (sym q.1) h in
+      let own = subst (λ d. IsNearDay display w b d n) (sym q.1) h in
       meets-near display w b bounded p.entry q.0.listed.1 (occurs-forward files display p.entry q.0.listed.0) p.day q.0.on n own
 
   pub shown-first : (p : OnDay) → IsOnDay files display w p → first_near w b ≤ℤ p.day
@@ -120,7 +120,7 @@ module _ (files : List FileSaid) (display : Clock) (w : Window) (b : Bounds) (bo
 
   -- A later day: where nothing is to come under the day or between them, that day's come next.
   pub ahead-turned : {day next : ℤ} {n : Window} {none coming : List Entry} {list : List OnDay} (key : Option Rank) → IsBeforeAll next key → day <ℤ next
-      → NoneBetween day next → IsNearDay w b next n → none ≡ [] → IsListing entry_cmp (IsToCome files display n key) coming
+      → NoneBetween day next → IsNearDay display w b next n → none ≡ [] → IsListing entry_cmp (IsToCome files display n key) coming
       → IsAheadOf files display w day none list → IsAheadOf files display w next coming list
   ahead-turned {day = day} {next = next} {n = n} {coming = coming} key all e between h empty l a =
       let later = filter (λ p. int_lt next p.day) a.later in
@@ -191,11 +191,12 @@ module _ (files : List FileSaid) (display : Clock) (w : Window) (b : Bounds) (bo
         (all.0, relisted all.1 (λ p m. m.shown) (λ p s. let first = shown-first p s in record { shown = s; later = omega (arith, ints, first) }))
 
     pub begun-ahead : (xs coming : List Entry) (sources : List Source) → IsListing entry_cmp (IsListed files display w) xs
-        → IsNearAgenda files display (IsNearDay w b day) key coming sources ⊎ IsPastAgenda (last_near w b) day coming sources
+        → IsNearAgenda files display (IsNearDay display w b day) key coming sources ⊎ IsPastAgenda (last_near w b) day coming sources
         → (list : List OnDay) × IsListing on_day_cmp (IsOnDay files display w) list × IsAheadOf files display w day coming (after_day_key after list)
     begun-ahead xs coming sources l agenda =
         let come = ⊎_elim
-        (λ (a : IsNearAgenda files display (IsNearDay w b day) key coming sources). begun-listing day key a.window (near-under a.window a.near) a.listing)
+        (λ (a : IsNearAgenda files display (IsNearDay display w b day) key coming sources).
+        begun-listing day key a.window (near-under a.window a.near) a.listing)
         (λ (a : IsPastAgenda (last_near w b) day coming sources). begun-past a.past coming a.none) agenda in
         let all = all-shown xs l in
         let later = later-than xs l day in
@@ -310,7 +311,7 @@ day-masters s day ms =
     all-as (IsDayMaster s day) (IsOfFolder s.files s.display) ms (λ m h. record { by = h.by; is = h.is; same = h.searched.same })
 
 -- those of a listing are searched in its window, from an instant on
-pub searched-masters : (s : Scope) {day : ℤ} {n : Window} (after : Option Rank) → IsNearDay s.window s.bounds day n
+pub searched-masters : (s : Scope) {day : ℤ} {n : Window} (after : Option Rank) → IsNearDay s.display s.window s.bounds day n
     → ((since : ℤ) → IsFrom after since → IsFromStart s.after day since)
     → (ms : List Recurring) → AllByRecursion (IsMasterOf s.files s.display n after) ms → AllByRecursion (IsDayMaster s day) ms
 searched-masters s {day = day} {n = n} after near from ms =
@@ -319,7 +320,7 @@ searched-masters s {day = day} {n = n} after near from ms =
       is = h.is;
       searched = record {
         same = same-master s.files s.display m h.by h.clocks h.event;
-        near = subst (IsNearDay s.window s.bounds day) (sym h.window) near;
+        near = subst (IsNearDay s.display s.window s.bounds day) (sym h.window) near;
         from = from m.since h.since;
       };
     })
@@ -334,8 +335,8 @@ module _ (files : List FileSaid) (display : Clock) (w : Window) (after : Option 
       (λ m h. record { by = h.by; is = h.is; same = same-master files display m h.by h.clocks h.event }) are.each) all
 
 -- past the last day the window holds nothing near one
-none-near : (w : Window) (b : Bounds) (day : ℤ) (n : Window) → last_near w b <ℤ day → IsNearDay w b day n → ⊥
-none-near w b day n past near =
+none-near : (clock : Clock) (w : Window) (b : Bounds) (day : ℤ) (n : Window) → last_near w b <ℤ day → IsNearDay clock w b day n → ⊥
+none-near clock w b day n past near =
     let last = day-under ((w.to -ℤ pos 1) +ℤ b.most) (day_of_local ((w.to -ℤ pos 1) +ℤ b.most)) refl in
     omega (arith, ints, int_max_is, int_min_is, n.ordered, near.from, near.to, last.1, past)
 
@@ -383,7 +384,7 @@ module _ (s : Scope) (day : ℤ) (sources : List Source) (are : AreDayMasters s 
 
     none-past : (masters : List Placed) → AreMasters s masters → last_near s.window s.bounds <ℤ day → steps ≤ 0
     none-past masters all past =
-        let none = day-most masters all (λ m. 0) (λ p k m searched. absurd (none-near s.window s.bounds day m.window past searched.near)) in
+        let none = day-most masters all (λ m. 0) (λ p k m searched. absurd (none-near s.display s.window s.bounds day m.window past searched.near)) in
         omega (arith, none, sum_by-le (λ m. 0) 0 (map master_of (recurring sources)) (λ k d l. omega arith))
 
     module _ (looked : ℕ) (before : IsLookedBefore s day sources looked) (begun : begin_day s ≤ℤ day) where
@@ -457,7 +458,7 @@ no-masters s day e = rw e tt
 -- the masters of the first day's agenda
 pub first-masters : (s : Scope) {day : ℤ} {key : Option Rank} {coming : List Entry} {sources : List Source}
     → ((since : ℤ) → IsFrom key since → IsFromStart s.after day since)
-    → IsNearAgenda s.files s.display (IsNearDay s.window s.bounds day) key coming sources
+    → IsNearAgenda s.files s.display (IsNearDay s.display s.window s.bounds day) key coming sources
     ⊎ IsPastAgenda (last_near s.window s.bounds) day coming sources → AreDayMasters s day sources
 first-masters s {key = key} {sources = sources} from (inl a) = searched-masters s key a.near from (recurring sources) a.are.each
 first-masters s from (inr a) = rw a.no_source tt

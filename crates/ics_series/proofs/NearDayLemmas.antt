@@ -79,6 +79,15 @@ module _ (clock : Clock) (w : Window) (b : Bounds) (bounded : HasOffsets clock w
       let off = bounded.offsets t here.0 here.1 in
       (omega (arith, ints, under.0, off.1), omega (arith, ints, under.1, off.0))
 
+  -- a clock shows later days from an instant on, if it does so up to where the lesser offset shows them too
+  pub later-on : (day : ℤ) {end to : ℤ} → to ≡ int_min w.to (midnight (day +ℤ pos 1) -ℤ b.least)
+      → ((t : ℤ) → end ≤ℤ t → t <ℤ to → day <ℤ date_at clock t) → (t : ℤ) → w.from ≤ℤ t → end ≤ℤ t → t <ℤ w.to → day <ℤ date_at clock t
+  later-on day {to = to} is known t from on within =
+      ⊎_elim (known t on)
+      (λ past.
+      let near = (date-near t (from, within)).1 in
+      omega (arith, ints, is, past, within, near, int_min_is w.to (midnight (day +ℤ pos 1) -ℤ b.least))) (less_or_not_z t to)
+
   module _ (o : Entry) (met : Meets w o) (forward : o.start ≤ℤ o.finish) (day : ℤ) (on : is_on clock w o day ≡ true) where
     shown : (first_day clock w o ≤ℤ day) × (day ≤ℤ last_day clock w o)
     shown =
@@ -108,9 +117,6 @@ module _ (clock : Clock) (w : Window) (b : Bounds) (bounded : HasOffsets clock w
         let most = int_max_is o.start (o.finish -ℤ pos 1) in
         (omega (arith, ints, is, least, most, lasts, w.ordered), omega (arith, ints, is))
 
-    near-start : (o.start +ℤ b.least) <ℤ midnight (day +ℤ pos 1)
-    near-start = omega (arith, ints, (date-near (int_max o.start w.from) within-start).1, shown.0, int_max_is o.start w.from)
-
     near-finish : (from : ℤ) → from ≡ int_max w.from (midnight day -ℤ b.most) → (from <ℤ o.finish) ⊎ ((o.finish ≡ o.start) × (from ≤ℤ o.start))
     near-finish from e =
         let low = (date-near (int_max o.start w.from) within-start).0 in
@@ -122,13 +128,15 @@ module _ (clock : Clock) (w : Window) (b : Bounds) (bounded : HasOffsets clock w
         omega (arith, ints, e, least, end, k.0, k.1, int_max_is, int_min_is)) by-length)
 
     -- so it meets what the window holds near one of its days
-    pub meets-near : (n : Window) → IsNearDay w b day n → Meets n o
+    pub meets-near : (n : Window) → IsNearDay clock w b day n → Meets n o
     meets-near n near = record {
-      begun =
-          let start = near-start in
-          let begun = met.begun in
-          let to = near.to in
-          omega (arith, ints, to, start, begun, int_min_is w.to (midnight (day +ℤ pos 1) -ℤ b.least));
+      begun = ⊎_elim (λ l. l)
+          (λ late.
+          let at : int_max o.start w.from ≡ o.start =
+          omega (arith, ints, late, n.ordered, near.from, int_max_is o.start w.from, int_max_is w.from (midnight day -ℤ b.most)) in
+          let same = ap (date_at clock) at in
+          let past = near.later o.start late met.begun in
+          absurd (omega (arith, ints, same, past, shown.0))) (less_or_not_z o.start n.to);
       lasting = near-finish n.from near.from;
       started = λ s. let f : false ≡ true = sym near.all ∙ s in absurd cc;
     }
@@ -177,6 +185,10 @@ module _ {day seconds : ℤ} (is : day ≡ day_of_local seconds) where
 
   pub last-within : (w : Window) (b : Bounds) → seconds ≤ℤ ((w.to -ℤ pos 1) +ℤ b.most) → day ≤ℤ last_near w b
   last-within w b high = let rise = day-rises seconds ((w.to -ℤ pos 1) +ℤ b.most) high in omega (arith, ints, is, rise)
+
+-- A clock shows a later day where it shows no local before the midnight that ends the day.
+pub later-day : (clock : Clock) (day t : ℤ) → midnight (day +ℤ pos 1) ≤ℤ local_at clock t → day <ℤ date_at clock t
+later-day clock day t low = let under = day-under (local_at clock t) (date_at clock t) refl in omega (arith, ints, under.1, low)
 
 -- What is shown under a day before that of the window's first instant begins after it.
 pub begins-later : (clock : Clock) (w : Window) (o : Entry) {day : ℤ} → is_on clock w o day ≡ true → day <ℤ date_at clock w.from → w.from <ℤ o.start

@@ -33,6 +33,13 @@ is-shown clock s {local = local} {moment = moment} stretch shows e =
       high = int_lt_true local s.to within.1;
     }
 
+-- at the instants of a stretch's locals a clock has its offset
+pub offset-in : {clock : Clock} {s : Stretch} → IsStretched clock s → (t : ℤ) → s.from ≤ℤ (t +ℤ s.offset) → (t +ℤ s.offset) <ℤ s.to
+    → clock.offset t ≡ s.shown
+offset-in {clock = clock} {s = s} stretch t from to =
+    let same : (t +ℤ s.offset) -ℤ s.offset ≡ t = omega (arith, ints) in
+    sym (ap clock.offset same) ∙ stretch.offsets (t +ℤ s.offset) from to
+
 -- what a clock shows at an instant of those years
 moment-shown : {local moment offset : ℤ} → local ≡ moment +ℤ offset → IsNear offset → occurrence_first ≤ℤ moment → moment <ℤ occurrence_end
     → IsMoment local
@@ -72,9 +79,7 @@ module _ {clock : Clock} {s : Stretch} {local moment : ℤ} (shown : IsShown clo
       omega (arith, ints, own, there, shown.at, shown.shows)
 
   in-stretch : (t : ℤ) → s.from ≤ℤ (t +ℤ s.offset) → (t +ℤ s.offset) <ℤ s.to → clock.offset t ≡ s.offset
-  in-stretch t from to =
-      let same : (t +ℤ s.offset) -ℤ s.offset ≡ t = omega (arith, ints) in
-      sym (ap clock.offset same) ∙ (shown.stretch.offsets (t +ℤ s.offset) from to ∙ one-offset)
+  in-stretch t from to = offset-in shown.stretch t from to ∙ one-offset
 
   -- it has that offset from the instant on and before another that the stretch reaches
   pub one-from : (end : ℤ) → (end +ℤ s.offset) ≤ℤ s.to → (t : ℤ) → moment ≤ℤ t → t <ℤ end → clock.offset t ≡ s.offset

@@ -16,7 +16,6 @@ use Rattle.ics_fields.specs.Locals.{day_of_local, midnight}
 use Rattle.ics_zone.proofs.Cases.{int_le_false, less_or_not_z, true_int_le, true_int_lt}
 use Rattle.ics_zone.specs.declared.bounds.Bounds.{Bounds}
 use Rattle.ics_starts.specs.Clocks.{instant}
-use Rattle.ics_series.specs.Inner.Offsets.{AreOffsets}
 use Rattle.ics_series.specs.NearDays.{first_near, last_near, HasOffsets, IsNearDay}
 use Rattle.ics_starts.specs.declared.series.Series.{Series}
 use Rattle.ics_series.specs.declared.span.Span.{Span}
@@ -51,7 +50,7 @@ use Rattle.ics_series.proofs.AheadLemmas.{near-under, shown-first, shown-last, N
 use Rattle.ics_listing.proofs.Cases.{not-true}
 use Rattle.ics_listing.proofs.ListingLemmas.{contains-in, get-in, one-listing}
 use Rattle.ics_listing.proofs.NearLemmas.{day-under}
-use Rattle.ics_series.proofs.NearDayLemmas.{bounds-offsets, day-within, near-ordered}
+use Rattle.ics_series.proofs.NearDayLemmas.{bounds-offsets, day-within, later-on, near-ordered}
 use Rattle.ics_starts.proofs.MeetsLemmas.{is_met-meets, meets-is_met}
 use Rattle.ics_series.proofs.MarkLemmas.{first_source}
 use Rattle.ics_series.proofs.RecurringLemmas.{recurring-master}
@@ -345,7 +344,7 @@ module _ (files : List FileSaid) (display : Clock) (w : Window) (floor : Option 
       (rw (is.clocks, is.window) at own)
 
 -- The windows near days.
-pub near-later : {w m n : Window} {b : Bounds} {x y : ℤ} → IsNearDay w b x m → IsNearDay w b y n → x ≤ℤ y → IsLater m n
+pub near-later : {clock : Clock} {w m n : Window} {b : Bounds} {x y : ℤ} → IsNearDay clock w b x m → IsNearDay clock w b y n → x ≤ℤ y → IsLater m n
 near-later {w = w} {b = b} {x = x} {y = y} h k l = record {
   from = omega (arith, ints, h.from, k.from, l, int_max_is w.from (midnight x -ℤ b.most), int_max_is w.from (midnight y -ℤ b.most));
   same = h.all ∙ sym k.all;
@@ -353,7 +352,7 @@ near-later {w = w} {b = b} {x = x} {y = y} h k l = record {
 
 -- Spans moved on near a day are those near each later day.
 module _ (files : List FileSaid) (display : Clock) (b : Bounds) (w : Window) (vs : List Version) {day next : ℤ} {old new : List Span}
-    (size : length old ≡ length vs) (are : AreSpansAfter files display b w day (map seen vs) old) {m : Window} (near : IsNearDay w b next m)
+    (size : length old ≡ length vs) (are : AreSpansAfter files display b w day (map seen vs) old) {m : Window} (near : IsNearDay display w b next m)
     (moved : AreMovedOn files display m (floor_of w) (map seen vs) old new) where
   pub after-next : day <ℤ next → AreSpansAfter files display b w next (map seen vs) new
   after-next on x n later h =
@@ -361,27 +360,35 @@ module _ (files : List FileSaid) (display : Clock) (b : Bounds) (w : Window) (vs
 
   -- also where the day stays, since nothing is near the days between
   pub after-same : AreChosen files display vs
-      → ((x : ℤ) → day <ℤ x → x <ℤ next → (s : Span) → IsIn s old → (n : Window) → IsNearDay w b x n → can_meet s n ≡ false)
+      → ((x : ℤ) → day <ℤ x → x <ℤ next → (s : Span) → IsIn s old → (clock : Clock) (n : Window) → IsNearDay clock w b x n → can_meet s n ≡ false)
       → AreSpansAfter files display b w day (map seen vs) new
   after-same chosen none x n later h = elim (less_or_not_z x next) [
-    | inl before ↦ λ k s l event at place stands out. none-of files display vs chosen old size n (are x n later h) (λ s m. none x later before s m n h) l event
-        (get-in l (map seen vs) k place) stands
+    | inl before ↦ λ k s l event at place stands out. none-of files display vs chosen old size n (are x n later h)
+        (λ s m. none x later before s m display n h) l event (get-in l (map seen vs) k place) stands
     | inr on ↦ moved.still n (near-later near h on) (are x n later h)
   ]
 
 -- what a window holds near a day
-pub near-window : (w : Window) (b : Bounds) → AreOffsets b → (day : ℤ) → first_near w b ≤ℤ day → day ≤ℤ last_near w b
-    → (n : Window) × IsNearDay w b day n
-near-window w b are day low high = (
+pub near-window : (clock : Clock) (w : Window) (b : Bounds) → HasOffsets clock w b → (day : ℤ) → first_near w b ≤ℤ day → day ≤ℤ last_near w b
+    → (n : Window) × IsNearDay clock w b day n
+near-window clock w b bounded day low high = (
   record {
     from = int_max w.from (midnight day -ℤ b.most);
     to = int_min w.to (midnight (day +ℤ pos 1) -ℤ b.least);
     notstarted = false;
-    ordered = near-ordered w b are day low high;
+    ordered = near-ordered w b (bounds-offsets clock w b bounded) day low high;
     not_early = omega (arith, ints, int_max_is, w.not_early);
     not_late = omega (arith, ints, int_min_is, w.not_late);
   },
-  record { from = refl; to = refl; all = refl },
+  record {
+    from = refl;
+    to = omega (arith, ints);
+    later = λ t past within.
+        let ordered = near-ordered w b (bounds-offsets clock w b bounded) day low high in
+        later-on clock w b bounded day refl (λ t from to. absurd (omega (arith, ints, from, to))) t
+        (omega (arith, ints, past, ordered, int_max_is w.from (midnight day -ℤ b.most))) past within;
+    all = refl;
+  },
 )
 
 -- The first that can begin.
@@ -415,8 +422,9 @@ module _ (from : ℤ) where
 module _ (w : Window) (b : Bounds) (spans : List Span) {day from first reached next : ℤ} (low : first_near w b ≤ℤ day) (most : next ≤ℤ last_near w b)
     (begin : from ≡ midnight (day +ℤ pos 1) -ℤ b.most) (is : first ≡ int_max (first_of from w.to spans) w.from)
     (at : reached ≡ day_of_local (first +ℤ b.least)) (day-is : next ≤ℤ int_max reached (day +ℤ pos 1)) where
-  pub none-near : (x : ℤ) → day <ℤ x → x <ℤ next → (s : Span) → IsIn s spans → (n : Window) → IsNearDay w b x n → can_meet s n ≡ false
-  none-near x later early s m n near =
+  pub none-near : (x : ℤ) → day <ℤ x → x <ℤ next → (s : Span) → IsIn s spans → (clock : Clock) (n : Window) → IsNearDay clock w b x n
+      → can_meet s n ≡ false
+  none-near x later early s m clock n near =
       let under = day-under (first +ℤ b.least) (day_of_local (first +ℤ b.least)) refl in
       let within = day-within w b x (omega (arith, ints, low, later)) (omega (arith, ints, most, early)) in
       let before : x <ℤ reached = omega (arith, ints, later, early, day-is, int_max_is reached (day +ℤ pos 1)) in
@@ -454,13 +462,13 @@ spans-floor files display w floor labels spans are k s l event at there stands o
 module _ (files : List FileSaid) (display : Clock) (w : Window) (b : Bounds) (bounded : HasOffsets display w b) (vs : List Version)
     (chosen : AreChosen files display vs) (spans : List Span) (size : length spans ≡ length vs) where
   pub none-between : {day next : ℤ} → AreSpansAfter files display b w day (map seen vs) spans
-      → ((x : ℤ) → day <ℤ x → x <ℤ next → (s : Span) → IsIn s spans → (n : Window) → IsNearDay w b x n → can_meet s n ≡ false)
+      → ((x : ℤ) → day <ℤ x → x <ℤ next → (s : Span) → IsIn s spans → (clock : Clock) (n : Window) → IsNearDay clock w b x n → can_meet s n ≡ false)
       → NoneBetween files display w b bounded day next
   none-between {day = day} {next = next} are none p shown later =
       ⊎_elim
       (λ early.
-      let n = near-window w b (bounds-offsets display w b bounded) p.day (shown-first files display w b bounded p shown)
+      let n = near-window display w b bounded p.day (shown-first files display w b bounded p shown)
       (shown-last files display w b bounded p shown) in
-      absurd (none-out files display vs chosen spans size n.0 (are p.day n.0 later n.1) (λ s m. none p.day later early s m n.0 n.1) p.entry
+      absurd (none-out files display vs chosen spans size n.0 (are p.day n.0 later n.1) (λ s m. none p.day later early s m display n.0 n.1) p.entry
       (shown.listed.0, near-under files display w b bounded n.0 n.1 p (shown, refl)) (meets-floor w p.entry shown.listed.1)))
       (λ l. l) (less_or_not_z p.day next)

@@ -70,7 +70,7 @@ IsFromStart (Some after) day since = day ≡ after.0 → after.1 ≤ℤ since
 -- a master in what the window holds near a day, from such an instant on
 pub record IsSearched (s : Scope) (day : ℤ) (master : Master) (m : Recurring) : Type 0 where
   pub same : master_of m ≡ master
-  pub near : IsNearDay s.window s.bounds day m.window
+  pub near : IsNearDay s.display s.window s.bounds day m.window
   pub from : IsFromStart s.after day m.since
 
 -- it is so of the master of its UID in the folder

@@ -1,4 +1,4 @@
--- The days that a clock can show in a window, known from two offsets between which it stays there, and what the window holds near such a day.
+-- The days that a clock can show in a window, known from two offsets between which it stays there, and what is searched of the window near such a day.
 use Rattle.std.specs.Prelude.{ℤ, pos, ◌+ℤ◌, ◌-ℤ◌, ◌≡◌, ◌≤ℤ◌, ◌<ℤ◌, false}
 use Rattle.std.specs.Int.{int_max, int_min}
 use Rattle.ics_fields.specs.Locals.{day_of_local, midnight}
@@ -6,6 +6,7 @@ use Rattle.ics_listing.specs.FileClocks.{Clock}
 use Rattle.ics_listing.specs.declared.window.Window.{Window}
 use Rattle.ics_zone.specs.Seconds.{IsNear}
 use Rattle.ics_zone.specs.declared.bounds.Bounds.{Bounds}
+use Rattle.ics_series.specs.OnDays.{date_at}
 
 -- In the window a clock stays between the two offsets, which are less than two days.
 pub record HasOffsets (clock : Clock) (w : Window) (b : Bounds) : Type 0 where
@@ -20,8 +21,10 @@ first_near w b = day_of_local (w.from +ℤ b.least)
 abbrev pub last_near : Window → Bounds → ℤ
 last_near w b = day_of_local ((w.to -ℤ pos 1) +ℤ b.most)
 
--- what a window holds of the instants from the day's midnight by the greater offset to the next midnight by the lesser
-pub record IsNearDay (w : Window) (b : Bounds) (day : ℤ) (n : Window) : Type 0 where
+-- What a window holds from the day's midnight by the greater offset on, to an instant no later than the next midnight by the lesser. From there on, and
+-- before the window's end, the clock shows later days.
+pub record IsNearDay (clock : Clock) (w : Window) (b : Bounds) (day : ℤ) (n : Window) : Type 0 where
   pub from : n.from ≡ int_max w.from (midnight day -ℤ b.most)
-  pub to : n.to ≡ int_min w.to (midnight (day +ℤ pos 1) -ℤ b.least)
+  pub to : n.to ≤ℤ int_min w.to (midnight (day +ℤ pos 1) -ℤ b.least)
+  pub later : (t : ℤ) → n.to ≤ℤ t → t <ℤ w.to → day <ℤ date_at clock t
   pub all : n.notstarted ≡ false

@@ -6,6 +6,7 @@ ghost use Rattle.std.specs.Int.{int_min};
 ghost use Rattle.std.specs.Option.{option_map};
 ghost use Rattle.ics_fields.specs.Days.{IsDayNumber};
 ghost use Rattle.ics_file.specs.File.{said_by};
+ghost use Rattle.ics_listing.specs.FileClocks.{Clock};
 ghost use Rattle.ics_starts.specs.Clocks.{display_clock};
 ghost use Rattle.ics_listing.specs.DayKeys.{day_key_rank, day_rank_of, after_day_key, on_day_cmp, GivesOnDay, OnDay};
 ghost use Rattle.ics_listing.specs.After.{is_after};
@@ -170,14 +171,15 @@ impl<'a> Days<'a> {
         ensures spans { AreSpansAfter (map said_by files.entry.now) (display_clock display.entry.now) bounds window.now day
             (map seen versions.entry.now) spans.new.items }
         ensures marks { AreMarks (map said_by files.entry.now) (map seen versions.entry.now) marks.new.items }
-        ensures agenda { IfOk result (λ agenda. IsNearAgenda (map said_by files.entry.now) (display_clock display.entry.now) (IsNearDay window.now bounds day)
+        ensures agenda { IfOk result (λ agenda. IsNearAgenda (map said_by files.entry.now) (display_clock display.entry.now)
+            (IsNearDay (display_clock display.entry.now) window.now bounds day)
             (option_map (λ key. key_rank key.now) key.entry) (agenda_coming agenda) (agenda_sources agenda)
             ⊎ IsPastAgenda (last_near window.now bounds) day (agenda_coming agenda) (agenda_sources agenda)) }
     {
         if last_near(window, bounds) < day {
             return Agenda::ended(alloc);
         }
-        let near = near_day(window, bounds, day);
+        let near = near_day(display, window, bounds, day);
         Agenda::of(
             alloc, files, display, versions, spans, marks, near, key, None,
         )
@@ -296,7 +298,7 @@ impl<'a> Days<'a> {
             self.last,
             self.today.day,
         );
-        let near = near_day(&self.window, self.bounds, day);
+        let near = near_day(self.display, &self.window, self.bounds, day);
         let key = key_near(self.display, &self.window, day, &self.floor);
         let agenda = Agenda::of(
             self.alloc,
@@ -326,8 +328,8 @@ fn next_day(spans: &[Span], window: &Window, bounds: Bounds, last: i32, day: i32
     requires more { day <ℤ last }
     ensures later { day <ℤ result }
     ensures last { result ≤ℤ last }
-    ensures none { (x : ℤ) → day <ℤ x → x <ℤ result → (s : Span) → IsIn s spans.now → (n : Window) → IsNearDay window.now bounds x n
-        → can_meet s n ≡ false }
+    ensures none { (x : ℤ) → day <ℤ x → x <ℤ result → (s : Span) → IsIn s spans.now → (clock : Clock) (n : Window)
+        → IsNearDay clock window.now bounds x n → can_meet s n ≡ false }
 {
     let next = day + 1;
     let from = i64::from(next) * DAY - bounds.most;

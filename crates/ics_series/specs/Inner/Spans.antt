@@ -92,7 +92,7 @@ pub record AreMovedOn (files : List FileSaid) (display : Clock) (w : Window) (fl
 -- they are so for what is listed of what a window holds near each day after one
 abbrev pub AreSpansAfter : List FileSaid → Clock → Bounds → Window → ℤ → List Label → List Span → Type 0
 AreSpansAfter files display b w day labels spans =
-    (x : ℤ) (n : Window) → day <ℤ x → IsNearDay w b x n → AreSpans files display n (floor_of w) labels spans
+    (x : ℤ) (n : Window) → day <ℤ x → IsNearDay display w b x n → AreSpans files display n (floor_of w) labels spans
 
 -- what is known of the occurrences from a window's end on, if none meets it
 pub record IsRest (clocks : Clocks) (event : Event) (w : Window) (since : ℤ) (s : Span) : Type 0 where

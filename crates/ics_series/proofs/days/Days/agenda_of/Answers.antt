@@ -43,6 +43,3 @@ returns-then-last_near-day-clause-spans c = λ x n later h.
 
 pub last_near-requires : goal.last_near-requires
 last_near-requires c = bounds-offsets (display_clock c.args.display.now) c.args.window.now c.args.bounds c.requires.bounded
-
-pub near_day-near-requires-clause-offsets : goal.near_day-near-requires-clause-offsets
-near_day-near-requires-clause-offsets c = bounds-offsets (display_clock c.args.display.now) c.args.window.now c.args.bounds c.requires.bounded

@@ -20,7 +20,7 @@ near_day-near-requires c =
     let self = c.args.self.now in
     let next = c.next_day-day in
     record {
-      offsets = bounds-offsets (display_clock self.display.now) self.window self.bounds self.bounded;
+      bounded = self.bounded;
       first = omega (arith, ints, next.type_inv, next.ensures.later, self.not_before);
       last = omega (arith, ints, next.type_inv, next.ensures.last, self.within);
     }
