@@ -1,11 +1,10 @@
 //! The days near which a window's occurrences are shown.
 ghost use Rattle.std.specs.Prelude.{◌≡◌, ◌≤ℤ◌, ◌<ℤ◌, ◌-ℤ◌, ℤ};
 ghost use Rattle.std.specs.Int.{int_min};
-ghost use Rattle.jiff_core.specs.Calendar.{IsBetween, IsWithin};
 ghost use Rattle.ics_listing.specs.FileClocks.{Clock};
 ghost use Rattle.ics_listing.specs.WindowBounds.{occurrence_first, window_last};
 ghost use Rattle.ics_starts.specs.Clocks.{display_clock, local_at, IsStretched};
-ghost use Rattle.ics_zone.specs.Seconds.{IsDay, IsMoment};
+ghost use Rattle.ics_zone.specs.Seconds.{IsDay, IsMoment, IsNear};
 ghost use Rattle.ics_series.specs.Inner.Offsets.{AreOffsets};
 ghost use Rattle.ics_series.specs.NearDays.{first_near, last_near, HasOffsets, IsNearDay};
 ghost use Rattle.ics_series.specs.OnDays.{date_at};
@@ -16,6 +15,9 @@ use ics_zone::{Bounds, Display, Place, Stretch};
 
 /// A day, in seconds.
 pub(crate) const DAY: i64 = 86_400;
+
+/// Six hours, in seconds: where offsets differ by no more, no more than that is searched beyond a day's end.
+const APART: i64 = 21_600;
 
 /// The day that the greater of two offsets shows at the window's last instant. A clock between them shows no later one in the window.
 pub(crate) fn last_near(window: &Window, bounds: Bounds) -> i32
@@ -45,14 +47,17 @@ pub(crate) fn near_day(display: &Display, window: &Window, bounds: Bounds, day: 
 }
 
 /// An instant from which on, and before another, the display zone shows later days than one: by a stretch of its clock about the midnight that ends
-/// the day and, if that does not reach the other instant, by the stretch about the local where it ends. Where the clock has one offset nothing is asked.
+/// the day and, if that does not reach the other instant, by the stretch about the local where it ends. Between two offsets that differ little it is the
+/// other instant itself, and no stretch is asked for.
 fn later_from(display: &Display, bounds: Bounds, day: i32, to: Moment) -> Moment
+    requires offsets { AreOffsets bounds }
     requires day { IsDay day }
-    requires to { IsBetween occurrence_first window_last to }
+    requires early { occurrence_first ≤ℤ to }
+    requires late { to ≤ℤ window_last }
     ensures to { result ≤ℤ to }
     ensures later { (t : ℤ) → result ≤ℤ t → t <ℤ to → day <ℤ date_at (display_clock display.now) t }
 {
-    if bounds.least == bounds.most {
+    if bounds.most - bounds.least <= APART {
         return to;
     }
     let local = (i64::from(day) + 1) * DAY;
@@ -68,8 +73,8 @@ fn later_from(display: &Display, bounds: Bounds, day: i32, to: Moment) -> Moment
 /// An instant from which on, and before another, a clock shows no local before one, by a stretch that holds the instants before the other: the first
 /// that is known. It is the other one if the stretch does not hold them.
 fn shown_from(stretch: Stretch, local: Moment, to: Moment) -> Moment
-    requires offset { IsWithin 93_599 stretch.offset }
-    requires shown { IsWithin 93_599 stretch.shown }
+    requires offset { IsNear stretch.offset }
+    requires shown { IsNear stretch.shown }
     requires local { IsMoment local }
     requires to { IsMoment to }
     ensures to { result ≤ℤ to }

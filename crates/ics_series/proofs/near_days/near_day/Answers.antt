@@ -82,22 +82,31 @@ overflow_sub-midnight-2 c =
     let short = b.least_short in
     rw (midnight-is c.args.day day c.from-midnight.ensures, next-fits c.args.day day) (omega (arith, ints, day.0, day.1, short.0, short.1))
 
+pub later_from-end-requires-clause-offsets : goal.later_from-end-requires-clause-offsets
+later_from-end-requires-clause-offsets c = bounds-offsets (display_clock c.args.display.now) c.args.window.now c.args.bounds c.requires.bounded
+
 pub later_from-end-requires-clause-day : goal.later_from-end-requires-clause-day
 later_from-end-requires-clause-day c =
     let are = bounds-offsets (display_clock c.args.display.now) c.args.window.now c.args.bounds c.requires.bounded in
     let fits : to_z w32 (of_z w32 c.args.day) ≡ c.args.day = search rules in
     rw fits (day-fits c.args.window.now c.args.bounds are c.args.day c.requires.first c.requires.last)
 
-pub later_from-end-requires-clause-to : goal.later_from-end-requires-clause-to
-later_from-end-requires-clause-to c =
+pub later_from-end-requires-clause-early : goal.later_from-end-requires-clause-early
+later_from-end-requires-clause-early c =
     let w = c.args.window.now in
     let b = c.args.bounds in
     let are = bounds-offsets (display_clock c.args.display.now) c.args.window.now c.args.bounds c.requires.bounded in
     let to = to-is w b are c.args.day c.requires.first c.requires.last c.from-midnight.ensures (record { sfits = c.min-to.type_inv }) c.min-to.ensures.value in
-    let ordered = near-ordered w b are c.args.day c.requires.first c.requires.last in (
-      omega (arith, ints, to, ordered, int_max_is, w.not_early),
-      omega (arith, ints, to, int_min_is, w.not_late),
-    )
+    let ordered = near-ordered w b are c.args.day c.requires.first c.requires.last in
+    omega (arith, ints, to, ordered, int_max_is, w.not_early)
+
+pub later_from-end-requires-clause-late : goal.later_from-end-requires-clause-late
+later_from-end-requires-clause-late c =
+    let w = c.args.window.now in
+    let b = c.args.bounds in
+    let are = bounds-offsets (display_clock c.args.display.now) c.args.window.now c.args.bounds c.requires.bounded in
+    let to = to-is w b are c.args.day c.requires.first c.requires.last c.from-midnight.ensures (record { sfits = c.min-to.type_inv }) c.min-to.ensures.value in
+    omega (arith, ints, to, int_min_is, w.not_late)
 
 pub overflow_add-from : goal.overflow_add-from
 overflow_add-from c =

@@ -2,28 +2,27 @@ use Rattle.std.proofs.Common.{rules, ◌≡◌, ◌<ℤ◌, ◌≤ℤ◌, ◌-�
 use Rattle.std.specs.Int.{int_max, int_min}
 use Rattle.std.proofs.lemmas.Bool.{and_parts}
 use Rattle.std.proofs.lemmas.Int.{int_max_is, int_min_is, ints, to_z-of_z}
-use Rattle.jiff_core.specs.Calendar.{IsWithin}
 use Rattle.ics_zone.proofs.Cases.{int_le_true}
-use Rattle.ics_zone.specs.Seconds.{IsMoment}
+use Rattle.ics_zone.specs.Seconds.{IsMoment, IsNear}
 use Rattle.ics_zone.specs.declared.stretch.Stretch.{Stretch}
 use Rattle.ics_listing.specs.FileClocks.{Clock}
 use Rattle.ics_starts.specs.Clocks.{local_at, IsStretched}
 use Rattle.ics_series.proofs.ShownLemmas.{offset-in}
 use Rattle.ics_series.proofs.near_days.shown_from.Goals as goal
 
-module _ (s : Stretch) (local to : ℤ) (offset : IsWithin 93_599 s.offset) where
+module _ (s : Stretch) (local to : ℤ) (offset : IsNear s.offset) where
   -- what is computed of the locals fits
   end-is : IsMoment to → to_z w64 (of_z w64 (to_z w64 (of_z w64 to) +ℤ to_z w64 (of_z w64 s.offset))) ≡ to +ℤ s.offset
   end-is m = omega (arith, ints, m, offset)
 
-  local-is : IsMoment local → IsWithin 93_599 s.shown
+  local-is : IsMoment local → IsNear s.shown
       → to_z w64 (of_z w64 (to_z w64 (of_z w64 (to_z w64 (of_z w64 local) +ℤ to_z w64 (of_z w64 s.offset))) -ℤ to_z w64 (of_z w64 s.shown)))
       ≡ (local +ℤ s.offset) -ℤ s.shown
   local-is m shown = omega (arith, ints, m, offset, shown)
 
   -- the first local of the stretch from which on the clock shows none before
   module _ {first : ℤ} (is : first ≡ int_max s.from ((local +ℤ s.offset) -ℤ s.shown)) where
-    first-fits : IsMoment local → IsMoment to → IsWithin 93_599 s.shown → s.from ≤ℤ (to +ℤ s.offset)
+    first-fits : IsMoment local → IsMoment to → IsNear s.shown → s.from ≤ℤ (to +ℤ s.offset)
         → SFits w64 (first -ℤ s.offset)
     first-fits m n shown from =
         omega (arith, ints, is, m, n, offset, shown, from, int_max_is s.from ((local +ℤ s.offset) -ℤ s.shown))
