@@ -15,7 +15,7 @@ import sys
 
 import hostile
 from folders import ROWS, write
-from zones import PAIRS, ROWS as ZONES, skipped_file
+from zones import PAIRS, ROWS as ZONES, skipped_files
 
 HERE = os.path.dirname(os.path.abspath(__file__))
 
@@ -76,7 +76,7 @@ def holds(program):
     """Measures the hostile files, each beside the loop, and tells whether each is within its limit."""
     print('%-40s %9s %9s %7s %8s %8s %8s' % ('hostile', 'seconds', 'MiB', 'status', 'limit', 'limit', 'loops'))
     within = True
-    skipped_file()
+    skipped_files()
     for name, text, words, limit, most in hostile.ROWS:
         folder = folder_of('hostile ' + name, lambda: [('a.ics', text())])
         loop = min(hostile.loop() for _ in range(3))

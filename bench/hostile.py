@@ -5,7 +5,7 @@ import resource
 import time
 
 from folders import calendar
-from zones import BERLIN, SKIPPED, part, stamps, zone
+from zones import APIA, BERLIN, SKIPPED, part, stamps, zone
 
 ODD = ','.join(str(number) for number in range(1, 60, 2))
 MONTHS = ','.join(str(month) for month in range(1, 13))
@@ -258,6 +258,10 @@ ROWS = [
     ('a second each by a clock that turns each minute', lambda: since_0001(1, EACH_OTHER_MINUTE, 'DURATION:PT1S'), [*DAY, '--limit', '1'], 4, 32),
     ('12 rules behind a day that the clock skipped, each day',
      lambda: calendar(seconds(12, '', since='18441221')), ['1845-01-01', '9d', '--limit', '1', '--every-day', '--notstarted', '--zone-file', SKIPPED], 8, 64),
+    ('127 rules since the day that the clock of Apia skipped, each day',
+     lambda: calendar(seconds(127, '', since='20111230')), ['2011-12-29', '9d', '--limit', '1', '--every-day', '--zone-file', APIA], 40, 256),
+    ('127 rules since the day behind it, each day',
+     lambda: calendar(seconds(127, '', since='20111231')), ['2011-12-29', '9d', '--limit', '1', '--every-day', '--zone-file', APIA], 1, 32),
     ('64 rules behind what is listed, limit 1', lambda: excluded(64, '', *once('20240628')),
      ['2024-06-28', '10d', '--limit', '1', *NEW_YORK], 1, 32),
     ('125 rules before their first day, each day', lambda: calendar(seconds(125, 'Z')), ['2024-06-29', '9d', '--limit', '1', '--every-day'], 1, 32),

@@ -104,6 +104,7 @@ HERE = os.path.dirname(os.path.abspath(__file__))
 ZONE_FILES = os.path.join(HERE, 'data', 'zone-files')
 BERLIN = os.path.join(HERE, '..', 'examples', 'zoneinfo', 'Europe', 'Berlin')
 SKIPPED = os.path.join(ZONE_FILES, 'Skipped')
+APIA = os.path.join(ZONE_FILES, 'Apia')
 
 
 def zone_file(name, rule, kinds, changes=()):
@@ -121,9 +122,11 @@ def zone_file(name, rule, kinds, changes=()):
     return path
 
 
-def skipped_file():
-    """Writes a zone file whose clock once skipped a day, as that of Manila did."""
-    return zone_file('Skipped', b'PST-8', [(-57_360, 0, b'LMT'), (28_800, 0, b'PST')], [(-3_944_621_040, 1)])
+def skipped_files():
+    """Writes two zone files whose clocks once skipped a day: as that of Manila did, and as that of Apia did, among more offsets."""
+    zone_file('Apia', b'WST-13', [(-41_400, 0, b'SST'), (-36_000, 1, b'SDT'), (50_400, 1, b'WDT'), (46_800, 0, b'WST')],
+              [(1_316_872_800, 1), (1_325_239_200, 2), (1_333_202_400, 3)])
+    zone_file('Skipped', b'PST-8', [(-57_360, 0, b'LMT'), (28_800, 0, b'PST')], [(-3_944_621_040, 1)])
 
 
 def zone_files():
