@@ -9,6 +9,7 @@ use Rattle.ics_values.specs.declared.stamp.Stamp.TheVariants.{Date, Floating, Ut
 pub use Rattle.ics_values.specs.Zoned.{is_zoned}
 pub use Rattle.ics_values.specs.Longest.{longest}
 pub use Rattle.ics_values.specs.Times.{time_in}
+use Rattle.ics_values.specs.declared.text_name.Texts.{Texts}
 use Rattle.ics_values.specs.declared.time.Time.{Time as TimeOf}
 use Rattle.ics_values.specs.declared.time.Length.{Length as LengthOf}
 use Rattle.ics_values.specs.declared.time.Length.TheVariants.{Open, Until, Lasting}
@@ -41,6 +42,14 @@ pub record EventSeen : Type 0 where
   pub description : List ℕ
   pub cancelled : Bool
   pub url : List ℕ
+
+-- Its texts, by the names of their properties, and an event that has these.
+abbrev pub texts_in : EventSeen → Texts (List ℕ)
+texts_in event = record { title = event.title; location = event.location; description = event.description; url = event.url }
+
+abbrev pub with_texts : Texts (List ℕ) → EventSeen → EventSeen
+with_texts texts event =
+    record event { title = texts.title; location = texts.location; description = texts.description; url = texts.url }
 
 -- A time whose stamp lies in the years 0001 to 9899, and that has a zone exactly where its stamp is a zoned one.
 pub record IsTime (time : Time) : Type 0 where

@@ -1,9 +1,11 @@
 ghost use Rattle.std.specs.Prelude.{◌≡◌};
+ghost use Rattle.ics_event.specs.Event.{texts_in};
 ghost use Rattle.ics_event.specs.Kept.{kept_event};
 ghost use Rattle.ics_values.specs.KeptTexts.{kept_text};
+ghost use Rattle.ics_values.specs.TextNames.{text_at};
 
 use crate::time::{Length, Rdate, Time};
-use ics_values::{KeptRule, KeptTexts, Text};
+use ics_values::{KeptRule, KeptTexts, Text, TextName};
 use std::alloc::Global;
 use std::marker::Model;
 
@@ -84,6 +86,18 @@ fn keep_text(alloc: Global, keep: bool, text: &mut Text)
 }
 
 impl Event {
+    /// The text of a property.
+    pub fn text(&self, name: TextName) -> &Text
+        ensures { result.now ≡ text_at name (texts_in self.now) }
+    {
+        match name {
+            TextName::Summary => &self.title,
+            TextName::Location => &self.location,
+            TextName::Description => &self.description,
+            TextName::Url => &self.url,
+        }
+    }
+
     /// Empties the texts that are not kept. Nothing else is changed.
     pub fn keep_texts(&mut self, alloc: Global, keep: KeptTexts)
         ensures { self.new ≡ kept_event keep self.old }

@@ -5,5 +5,5 @@ mod event;
 mod time;
 
 pub use event::Event;
-pub use ics_values::{KeptRule, KeptTexts, Text, is_zoned};
+pub use ics_values::{KeptRule, KeptTexts, Text, TextName, is_zoned};
 pub use time::{Length, Rdate, Time};

@@ -1,7 +1,7 @@
 -- Which texts an event has says nothing of its times.
 use Rattle.std.proofs.Common.{List, get_or, map}
 use Rattle.std.proofs.lemmas.List.Elements.{All-map}
-use Rattle.ics_values.specs.declared.kept_texts.KeptTexts.{KeptTexts}
+use Rattle.ics_values.specs.KeptTexts.{KeptTexts}
 use Rattle.ics_zone.specs.ZoneSaid.{ZoneSaid}
 use Rattle.ics_file.specs.File.{AreEventsOf, IsEventOf}
 use Rattle.ics_event.specs.Event.{EventSeen}

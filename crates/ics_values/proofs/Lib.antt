@@ -5,3 +5,4 @@ pub mod ListedLemmas
 pub mod RuleSays
 pub mod StampLemmas
 pub mod TextLemmas
+pub mod TextNameLemmas

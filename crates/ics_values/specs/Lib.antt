@@ -14,6 +14,7 @@ pub mod ValueFaultNames
 pub mod Zoned
 pub mod Times
 pub mod Longest
+pub mod TextNames
 pub mod KeptTexts
 pub mod Inner
 pub use Rattle.ics_fields.specs.Days

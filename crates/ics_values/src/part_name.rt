@@ -1,5 +1,5 @@
 //! The names of a rule's parts.
-ghost use Rattle.std.specs.Prelude.{◌≡◌, ◌<◌, map};
+ghost use Rattle.std.specs.Prelude.{◌≡◌, ◌==◌, ◌<◌, map};
 ghost use Rattle.std.specs.Str.{bytes_eq};
 ghost use Rattle.ics_values.specs.Digits.{upper as upper_of};
 ghost use Rattle.ics_values.specs.RuleTexts.{name_of, by_word, row};
@@ -46,7 +46,17 @@ impl PartName {
     }
 }
 
-/// Whether the text, its ASCII letters taken in upper case, is the word.
+/// Whether the byte, taken in upper case if it is a letter, is that of a word.
+#[inline(always)]
+fn is_byte_of(b: u8, of_word: u8) -> bool
+    ensures { result ≡ (upper_of b == of_word) }
+{
+    (b == of_word && !of_word.is_ascii_lowercase())
+        || (of_word.is_ascii_uppercase() && b == of_word + 32)
+}
+
+/// Whether the text, its ASCII letters taken in upper case, is the word. Beside a word that is written out, a byte is one or two comparisons.
+#[inline(always)]
 pub fn is_word(text: &[u8], word: &[u8]) -> bool
     ensures { result ≡ bytes_eq (map upper_of text.now) word.now }
 {
@@ -54,7 +64,7 @@ pub fn is_word(text: &[u8], word: &[u8]) -> bool
         return false;
     }
     for (i, b) in text.iter().enumerate() {
-        if b.to_ascii_uppercase() != word[i] {
+        if !is_byte_of(*b, word[i]) {
             return false;
         }
     }

@@ -5,8 +5,8 @@ use Rattle.ics_values.proofs.part_name.is_word.Goals as goal
 pub returns-then-text-word : goal.returns-then-text-word
 returns-then-text-word c = grind (arith, common_steps)
 
-pub returns-then-to_ascii_uppercase-word : goal.returns-then-to_ascii_uppercase-word
-returns-then-to_ascii_uppercase-word c = grind (arith, common_steps)
+pub returns-then-not-is_byte_of : goal.returns-then-not-is_byte_of
+returns-then-not-is_byte_of c = grind (arith, common_steps)
 
 pub loop-i-preserved : goal.loop-i-preserved
 loop-i-preserved c = grind (arith, common_steps)
