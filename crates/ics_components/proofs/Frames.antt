@@ -9,6 +9,7 @@ use Rattle.ics_components.specs.declared.component.Context.TheVariants as contex
 use Rattle.ics_components.specs.declared.frame.Frame.{Frame}
 use Rattle.ics_components.specs.declared.name.Name.{Name}
 use Rattle.ics_components.specs.declared.name.Name.TheVariants as name
+use Rattle.ics_values.specs.declared.text_name.TextName.TheVariants as text
 use Rattle.ics_components.specs.Components.{component_of, is_observance_context}
 use Rattle.ics_components.specs.PlacedLines.{Placed, Open, context_of, named, name_on, is_begin, component, path_behind, lines_in, value_of}
 use Rattle.ics_components.specs.PlacedLines.{params_of, first_of, in_zone}
@@ -52,7 +53,7 @@ builder-note os ls q l = by_name q (name_on l.content) refl
     by_name context.Outside n e = refl
     by_name context.Calendar n e = refl
     by_name context.Elsewhere n e = refl
-    by_name _ name.Other e = simp (one_more, e)
+    by_name _ (name.Text text.Url) e = simp (one_more, e)
     by_name _ _ e = simp (one_more, e)
 
 -- a line that begins or ends a component says nothing of the one in which it stands

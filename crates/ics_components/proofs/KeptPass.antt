@@ -8,7 +8,10 @@ use Rattle.std.proofs.lemmas.List.Elements.{All-map}
 use Rattle.ics_text.specs.Bytes.{upper}
 use Rattle.ics_text.specs.ContentLines.{Parts, content_of}
 use Rattle.ics_text.specs.Unfolded.{Line, begins_with_fold, unfolded}
-use Rattle.ics_values.specs.declared.kept_texts.KeptTexts.{KeptTexts}
+use Rattle.ics_values.specs.KeptTexts.{KeptTexts}
+use Rattle.ics_values.specs.TextNames.{text_at, texts_of, with_text}
+use Rattle.ics_values.specs.declared.text_name.TextName.{TextName}
+use Rattle.ics_values.specs.declared.text_name.TextName.TheVariants as text
 use Rattle.ics_components.specs.declared.builder.Builder.{Builder}
 use Rattle.ics_components.specs.declared.builder.Builder.TheVariants as builder
 use Rattle.ics_components.specs.declared.builder.ZoneBuilder.{ZoneBuilder}
@@ -48,12 +51,10 @@ use Rattle.ics_components.proofs.ReadTo.{read-said}
 use Rattle.ics_components.proofs.SoundPass.{sound-pass}
 
 -- A TEXT has no fault, and no zone.
-text-line : (v : Parts) (b : Builder) →
-    (line_fault name.Summary v b ≡ None) × (line_fault name.Location v b ≡ None) × (line_fault name.Description v b ≡ None) × (line_fault name.Url v b ≡ None)
-    × (line_fault name.Other v b ≡ None)
+text-line : (text : TextName) (v : Parts) (b : Builder) → line_fault name.Other v b ≡ line_fault (name.Text text) v b
 unfolding least_fault
-text-line v builder.Calendar = (refl, refl, refl, refl, refl)
-text-line v _ = (refl, refl, refl, refl, refl)
+text-line text v builder.Calendar = refl
+text-line text v _ = refl
 
 -- one name that is not read is judged as that of a text
 fault-of : (n : Name) (v : Parts) (f : Frame) (depth : ℕ) → outside_fault name.Other v ≡ outside_fault n v
@@ -73,13 +74,8 @@ module _ (keep : KeptTexts) where
   by_choice f false n e = e
 
   -- what a name that is not read has as each text has it, a name has by which a property is read
-  by_name : {X : Type 0} (f : Name → X)
-      → (f name.Other ≡ f name.Summary) × (f name.Other ≡ f name.Location) × (f name.Other ≡ f name.Description) × (f name.Other ≡ f name.Url) →
-      (n : Name) → f (kept_name keep n) ≡ f n
-  by_name f texts name.Summary = by_choice f keep.title name.Summary texts.0
-  by_name f texts name.Location = by_choice f keep.location name.Location texts.1
-  by_name f texts name.Description = by_choice f keep.description name.Description texts.2
-  by_name f texts name.Url = by_choice f keep.url name.Url texts.3
+  by_name : {X : Type 0} (f : Name → X) → ((text : TextName) → f name.Other ≡ f (name.Text text)) → (n : Name) → f (kept_name keep n) ≡ f n
+  by_name f texts (name.Text text) = by_choice f (text_at text keep) (name.Text text) (texts text)
   by_name f texts _ = refl
 
   -- THE COMPONENTS that are open, without the texts that are not kept.
@@ -115,13 +111,9 @@ module _ (keep : KeptTexts) where
 
   fault-read : (n : Name) (v : Parts) (f : Frame) (depth : ℕ) → fault_in (kept_name keep n) v f depth ≡ fault_in n v f depth
   fault-read n v f depth =
-      let texts = text-line v f.builder in
-      by_name (λ n. fault_in n v f depth) (
-        fault-of name.Summary v f depth (outside_line name.Other v refl ∙ sym (outside_line name.Summary v refl)) (texts.4 ∙ sym texts.0) (λ d. refl),
-        fault-of name.Location v f depth (outside_line name.Other v refl ∙ sym (outside_line name.Location v refl)) (texts.4 ∙ sym texts.1) (λ d. refl),
-        fault-of name.Description v f depth (outside_line name.Other v refl ∙ sym (outside_line name.Description v refl)) (texts.4 ∙ sym texts.2) (λ d. refl),
-        fault-of name.Url v f depth (outside_line name.Other v refl ∙ sym (outside_line name.Url v refl)) (texts.4 ∙ sym texts.3) (λ d. refl),
-      ) n
+      by_name (λ n. fault_in n v f depth) (λ text.
+      fault-of (name.Text text) v f depth (outside_line name.Other v refl ∙ sym (outside_line (name.Text text) v refl)) (text-line text v f.builder)
+      (λ d. refl)) n
 
   fault-kept : (n : Name) (v : Parts) (frames : List Frame) → fault_on (kept_name keep n) v (kept_frames frames) ≡ fault_on n v frames
   fault-kept n v [] = refl
@@ -134,12 +126,7 @@ module _ (keep : KeptTexts) where
   none-kept false = refl
 
   fresh-kept : (q : Context) → kept_builder (builder_at [] [] q) ≡ builder_at [] [] q
-  fresh-kept context.Event = λ i. builder.Event (record (collected_of []) {
-    title = none-kept keep.title i;
-    location = none-kept keep.location i;
-    description = none-kept keep.description i;
-    url = none-kept keep.url i;
-  })
+  fresh-kept context.Event = λ i. builder.Event (record (collected_of []) { texts = texts_of (λ text. none-kept (text_at text keep) i) })
   fresh-kept _ = refl
 
   context-on : (frames : List Frame) → context_on (kept_frames frames) ≡ context_on frames
@@ -174,43 +161,25 @@ module _ (keep : KeptTexts) where
   closed-kept (f ∷ g ∷ gs) = λ i. frame_at g.component g.calendar (joined-kept g.builder f.builder i) ∷ kept_frames gs
 
   -- of several texts the first is kept, or none
-  note-title : (k : Bool) (v : Parts) (had : EventFields) →
-      event_note (cond k name.Summary name.Other) v (kept_fields (record keep { title = k }) had)
-      ≡ kept_fields (record keep { title = k }) (event_note name.Summary v had)
-  note-title true v had = refl
-  note-title false v had = refl
-
-  note-location : (k : Bool) (v : Parts) (had : EventFields) →
-      event_note (cond k name.Location name.Other) v (kept_fields (record keep { location = k }) had)
-      ≡ kept_fields (record keep { location = k }) (event_note name.Location v had)
-  note-location true v had = refl
-  note-location false v had = refl
-
-  note-description : (k : Bool) (v : Parts) (had : EventFields) →
-      event_note (cond k name.Description name.Other) v (kept_fields (record keep { description = k }) had)
-      ≡ kept_fields (record keep { description = k }) (event_note name.Description v had)
-  note-description true v had = refl
-  note-description false v had = refl
-
-  note-url : (k : Bool) (v : Parts) (had : EventFields) →
-      event_note (cond k name.Url name.Other) v (kept_fields (record keep { url = k }) had)
-      ≡ kept_fields (record keep { url = k }) (event_note name.Url v had)
-  note-url true v had = refl
-  note-url false v had = refl
+  note-text : (text : TextName) (k : Bool) (v : Parts) (had : EventFields) →
+      event_note (cond k (name.Text text) name.Other) v (kept_fields (with_text text k keep) had)
+      ≡ kept_fields (with_text text k keep) (event_note (name.Text text) v had)
+  note-text text.Summary true v had = refl
+  note-text text.Summary false v had = refl
+  note-text _ true v had = refl
+  note-text _ false v had = refl
 
   note-kept : (n : Name) (v : Parts) (had : EventFields) → event_note (kept_name keep n) v (kept_fields keep had) ≡ kept_fields keep (event_note n v had)
-  note-kept name.Summary v had = note-title keep.title v had
-  note-kept name.Location v had = note-location keep.location v had
-  note-kept name.Description v had = note-description keep.description v had
-  note-kept name.Url v had = note-url keep.url v had
+  note-kept (name.Text text.Summary) v had = note-text text.Summary keep.title v had
+  note-kept (name.Text text) v had = note-text text (text_at text keep) v had
   note-kept _ v had = refl
 
   builder-kept : (n : Name) (v : Parts) (b : Builder) → builder_note (kept_name keep n) v (kept_builder b) ≡ kept_builder (builder_note n v b)
   builder-kept n v (builder.Event had) = ap (λ (fields : EventFields). builder.Event fields) (note-kept n v had)
   builder-kept n v (builder.Zone had) =
-      ap (λ (zone : ZoneBuilder). builder.Zone zone) (by_name (λ n. zone_note n v had) (refl, refl, refl, refl) n)
+      ap (λ (zone : ZoneBuilder). builder.Zone zone) (by_name (λ n. zone_note n v had) (λ text. refl) n)
   builder-kept n v (builder.Observance had) =
-      ap (λ (observance : ObservanceBuilder). builder.Observance observance) (by_name (λ n. observance_note n v had) (refl, refl, refl, refl) n)
+      ap (λ (observance : ObservanceBuilder). builder.Observance observance) (by_name (λ n. observance_note n v had) (λ text. refl) n)
   builder-kept n v _ = refl
 
   noted-kept : (n : Name) (v : Parts) (frames : List Frame) → noted (kept_name keep n) v (kept_frames frames) ≡ kept_frames (noted n v frames)
@@ -227,13 +196,8 @@ module _ (keep : KeptTexts) where
       behind number (kept_name keep n) v (kept_frames frames) ≡ kept_frames (behind number n v frames)
   behind-kept number name.Begin v frames = opened-kept number (component_of (map upper v.value)) frames
   behind-kept number name.End v frames = closed-kept frames
-  behind-kept number name.Summary v frames =
-      noted-as number keep.title name.Summary v (kept_frames frames) refl ∙ noted-kept name.Summary v frames
-  behind-kept number name.Location v frames =
-      noted-as number keep.location name.Location v (kept_frames frames) refl ∙ noted-kept name.Location v frames
-  behind-kept number name.Description v frames =
-      noted-as number keep.description name.Description v (kept_frames frames) refl ∙ noted-kept name.Description v frames
-  behind-kept number name.Url v frames = noted-as number keep.url name.Url v (kept_frames frames) refl ∙ noted-kept name.Url v frames
+  behind-kept number (name.Text text) v frames =
+      noted-as number (text_at text keep) (name.Text text) v (kept_frames frames) refl ∙ noted-kept (name.Text text) v frames
   behind-kept number n v frames = noted-kept n v frames
 
   -- WHAT ENDS on a line, and its check.
@@ -250,7 +214,7 @@ module _ (keep : KeptTexts) where
   end-named _ f = refl
 
   end-kept : (n : Name) (f : Frame) → end_in (kept_name keep n) (kept_frame f) ≡ kept_closed (end_in n f)
-  end-kept n f = by_name (λ n. end_in n (kept_frame f)) (refl, refl, refl, refl) n ∙ end-named n f
+  end-kept n f = by_name (λ n. end_in n (kept_frame f)) (λ text. refl) n ∙ end-named n f
 
   zone-kept : (calendar : ℕ) (n : Name) (v : Parts) (b : Builder) → builder_zone calendar n v (kept_builder b) ≡ builder_zone calendar n v b
   zone-kept calendar n v (builder.Event had) = refl
@@ -274,12 +238,7 @@ module _ (keep : KeptTexts) where
   check-kept : (n : Name) (v : Parts) (f : Frame) → check_in (kept_name keep n) v (kept_frame f) ≡ check_in n v f
   check-kept n v f =
       let b : Builder = kept_builder f.builder in
-      by_name (λ n. check_in n v (kept_frame f)) (
-        ap zone_check (text-zone f.calendar name.Summary v b (λ had. refl)),
-        ap zone_check (text-zone f.calendar name.Location v b (λ had. refl)),
-        ap zone_check (text-zone f.calendar name.Description v b (λ had. refl)),
-        ap zone_check (text-zone f.calendar name.Url v b (λ had. refl)),
-      ) n ∙ check-named n v f
+      by_name (λ n. check_in n v (kept_frame f)) (λ text. ap zone_check (text-zone f.calendar (name.Text text) v b (λ had. refl))) n ∙ check-named n v f
 
   -- WHAT IS GATHERED with a line more.
   gathered-kept : (number : ℕ) (e : ClosedComponent) (check : Option DeferredCheck) (had : ParsedFileSeen) →

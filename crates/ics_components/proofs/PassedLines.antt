@@ -2,11 +2,11 @@
 use Rattle.std.proofs.Common.{◌≡◌, ℕ, not, false, List, refl, sym, ap, ◌∙◌, Some, Result, Ok, Err, IfOk}
 use Rattle.ics_text.specs.Passing.{IsUnread, IsPassed}
 use Rattle.ics_text.specs.Unfolded.{Line}
-use Rattle.ics_values.specs.KeptTexts.{all_texts}
-use Rattle.ics_values.specs.declared.kept_texts.KeptTexts.{KeptTexts}
+use Rattle.ics_values.specs.KeptTexts.{KeptTexts, all_texts}
 use Rattle.ics_components.specs.declared.first_round.FirstRound.{FirstRound}
 use Rattle.ics_components.specs.declared.name.Name.{Name}
 use Rattle.ics_components.specs.declared.name.Name.TheVariants as name
+use Rattle.ics_values.specs.declared.text_name.TextName.TheVariants as text
 use Rattle.ics_components.specs.declared.refused.Refused.{Refused}
 use Rattle.ics_components.specs.declared.refused.Refused.TheVariants.{Memory, Fault}
 use Rattle.ics_text.specs.ContentLines.{Parts}
@@ -32,10 +32,7 @@ Judges result round = (number : ℕ) (content : Parts) → Passes result number 
 
 -- where all texts are kept, each property is read by its own name
 all-kept : (n : Name) → kept_name all_texts n ≡ n
-all-kept name.Summary = refl
-all-kept name.Location = refl
-all-kept name.Description = refl
-all-kept name.Url = refl
+all-kept (name.Text text.Summary) = refl
 all-kept _ = refl
 
 module _ (keep : KeptTexts) where

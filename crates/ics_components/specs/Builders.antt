@@ -13,6 +13,7 @@ use Rattle.ics_components.specs.declared.event_fields.EventFields.{EventFields}
 use Rattle.ics_components.specs.declared.name.Name.TheVariants as name
 use Rattle.ics_components.specs.declared.parsed_file.CalendarZone.{CalendarZone}
 use Rattle.ics_values.specs.Integers.{integer_of}
+use Rattle.ics_values.specs.TextNames.{text_read, texts_of}
 use Rattle.ics_components.specs.Faults.{first_text, first_time, duration_on, parts_on, listed_on}
 use Rattle.ics_components.specs.declared.date_values.Listing.{Listing}
 use Rattle.ics_components.specs.declared.date_values.Listing.TheVariants as listing
@@ -38,11 +39,8 @@ collected_of lines = record {
   exdates = flat_map (rdates_on listing.Exdate) (all_named name.Exdate lines);
   recurrence = first_time name.RecurrenceId lines;
   sequence = option_map (λ line. ok_or_zero (integer_of (value line))) (first_named name.Sequence lines);
-  title = first_text name.Summary lines;
-  location = first_text name.Location lines;
-  description = first_text name.Description lines;
+  texts = texts_of (λ text. option_map (λ line. text_read text (value line)) (first_named (name.Text text) lines));
   cancelled = option_map (λ line. is_cancelled (value line)) (first_named name.Status lines);
-  url = option_map value (first_named name.Url lines);
 }
 
 -- a time zone whose observances are these

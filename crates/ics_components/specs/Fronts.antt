@@ -1,7 +1,6 @@
 -- What the first round reads of a file: all of it, or its first fault and the events before that.
 use Rattle.std.specs.Prelude.{◌≡◌, ℕ, List, [], ◌∷◌, ◌++◌, Ok, Err}
-use Rattle.ics_values.specs.KeptTexts.{all_texts}
-use Rattle.ics_values.specs.declared.kept_texts.KeptTexts.{KeptTexts}
+use Rattle.ics_values.specs.KeptTexts.{KeptTexts, all_texts}
 use Rattle.ics_components.specs.declared.first_round.FirstRead.{FirstRead}
 use Rattle.ics_components.specs.declared.first_round.FirstRead.TheVariants.{Whole, Faulty}
 use Rattle.ics_components.specs.declared.frame.Frame.{Frame}

@@ -1,6 +1,7 @@
 -- WHAT IS GATHERED of a file where some texts of its events are not kept: each text is what its lines give or none, and nothing else is changed.
 use Rattle.std.specs.Prelude.{◌≡◌, ℕ, Bool, List, map, Option, None, Result, Ok, Err, if◌then◌else◌}
-use Rattle.ics_values.specs.declared.kept_texts.KeptTexts.{KeptTexts}
+use Rattle.ics_values.specs.KeptTexts.{KeptTexts}
+use Rattle.ics_values.specs.TextNames.{text_at, texts_of}
 use Rattle.ics_components.specs.declared.event_fields.EventFields.{EventFields}
 use Rattle.ics_components.specs.declared.fault.Fault.{Fault}
 use Rattle.ics_components.specs.declared.fault.FileFault.{FileFault}
@@ -12,12 +13,7 @@ abbrev pub if_kept : Bool → Option (List ℕ) → Option (List ℕ)
 if_kept kept text = if kept then text else None
 
 abbrev pub kept_fields : KeptTexts → EventFields → EventFields
-kept_fields keep had = record had {
-  title = if_kept keep.title had.title;
-  location = if_kept keep.location had.location;
-  description = if_kept keep.description had.description;
-  url = if_kept keep.url had.url;
-}
+kept_fields keep had = record had { texts = texts_of (λ name. if_kept (text_at name keep) (text_at name had.texts)) }
 
 abbrev pub kept_ended : KeptTexts → CalendarEvent → CalendarEvent
 kept_ended keep event = record event { fields = kept_fields keep event.fields }

@@ -13,6 +13,7 @@ use Rattle.ics_values.specs.Offsets.{offset_of}
 use Rattle.ics_values.specs.Plain.{text_of}
 use Rattle.ics_values.specs.Rules.{rule_of}
 use Rattle.ics_values.specs.Stamps.{stamp_of}
+use Rattle.ics_values.specs.TextNames.{text_at, text_read, with_text}
 use Rattle.ics_values.specs.declared.duration.Duration.{Duration}
 use Rattle.ics_values.specs.declared.duration.DurationFault.{DurationFault}
 use Rattle.ics_values.specs.declared.duration.DurationFault.TheVariants as duration
@@ -133,11 +134,8 @@ event_property name.RecurrenceId c = property.Recurrence (time_of c.params c.val
 event_property name.Sequence c = property.Sequence (ok_or_zero (integer_of c.value))
 event_property name.Rdate c = property.Rdates (list_of listing.Rdate c.params c.value)
 event_property name.Exdate c = property.Exdates (list_of listing.Exdate c.params c.value)
-event_property name.Summary c = property.Title (text_of c.value)
-event_property name.Location c = property.Location (text_of c.value)
-event_property name.Description c = property.Description (text_of c.value)
+event_property (name.Text text) c = property.Text text (text_read text c.value)
 event_property name.Status c = property.Cancelled (is_cancelled c.value)
-event_property name.Url c = property.Url c.value
 event_property _ c = property.Other
 
 -- the first of several counts
@@ -151,11 +149,8 @@ with_property (property.Recurrence time) had = record had { recurrence = option_
 with_property (property.Sequence number) had = record had { sequence = option_or had.sequence (Some number) }
 with_property (property.Rdates list) had = record had { rdates = had.rdates ++ list.values }
 with_property (property.Exdates list) had = record had { exdates = had.exdates ++ list.values }
-with_property (property.Title text) had = record had { title = option_or had.title (Some text) }
-with_property (property.Location text) had = record had { location = option_or had.location (Some text) }
-with_property (property.Description text) had = record had { description = option_or had.description (Some text) }
+with_property (property.Text n text) had = record had { texts = with_text n (option_or (text_at n had.texts) (Some text)) had.texts }
 with_property (property.Cancelled cancelled) had = record had { cancelled = option_or had.cancelled (Some cancelled) }
-with_property (property.Url url) had = record had { url = option_or had.url (Some url) }
 with_property property.Other had = had
 
 abbrev pub property_zone : ℕ → Property → Option ZoneName

@@ -1,6 +1,8 @@
 -- The names of the properties that a file is read for (RFC 5545, section 3.8).
-use Rattle.std.specs.Prelude.{ℕ, Bool, true, false, List, [], ◌∷◌, ◌++◌, codes, if◌then◌else◌}
+use Rattle.std.specs.Prelude.{ℕ, Bool, true, false, List, [], ◌∷◌, codes, Option, Some, None, if◌then◌else◌}
 use Rattle.std.specs.Str.{bytes_eq}
+use Rattle.ics_values.specs.TextNames.{same_text, text_named}
+use Rattle.ics_values.specs.declared.text_name.TextName.{TextName}
 use Rattle.ics_components.specs.declared.name.Name.{Name}
 use Rattle.ics_components.specs.declared.name.Name.TheVariants as name
 
@@ -18,13 +20,17 @@ first_words =
 
 abbrev pub other_words : List (List ℕ × Name)
 other_words =
-    (codes "EXRULE", name.Exrule) ∷ (codes "VERSION", name.Version) ∷ (codes "SUMMARY", name.Summary) ∷ (codes "LOCATION", name.Location)
-    ∷ (codes "DESCRIPTION", name.Description) ∷ (codes "STATUS", name.Status) ∷ (codes "URL", name.Url) ∷ (codes "TZID", name.Tzid)
+    (codes "EXRULE", name.Exrule) ∷ (codes "VERSION", name.Version) ∷ (codes "STATUS", name.Status) ∷ (codes "TZID", name.Tzid)
     ∷ (codes "TZOFFSETFROM", name.OffsetFrom) ∷ (codes "TZOFFSETTO", name.OffsetTo) ∷ []
+
+-- the name of a text, or another
+abbrev pub text_or : Name → Option TextName → Name
+text_or n (Some text) = name.Text text
+text_or n None = n
 
 -- what a name in upper case stands for
 abbrev pub name_of : List ℕ → Name
-name_of u = named_in (first_words ++ other_words) name.Other u
+name_of u = named_in first_words (text_or (named_in other_words name.Other u) (text_named u)) u
 
 abbrev pub same_name : Name → Name → Bool
 same_name name.Begin name.Begin = true
@@ -40,13 +46,10 @@ same_name name.Rdate name.Rdate = true
 same_name name.Exdate name.Exdate = true
 same_name name.Exrule name.Exrule = true
 same_name name.Version name.Version = true
-same_name name.Summary name.Summary = true
-same_name name.Location name.Location = true
-same_name name.Description name.Description = true
 same_name name.Status name.Status = true
-same_name name.Url name.Url = true
 same_name name.Tzid name.Tzid = true
 same_name name.OffsetFrom name.OffsetFrom = true
 same_name name.OffsetTo name.OffsetTo = true
+same_name (name.Text a) (name.Text b) = same_text a b
 same_name name.Other name.Other = true
 same_name _ _ = false

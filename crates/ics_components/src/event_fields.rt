@@ -17,7 +17,7 @@ use crate::refused::Refused;
 use crate::time::{time_of, zone_check};
 use crate::tzid::{Tzid, Tzids};
 use ics_text::Content;
-use ics_values::{Duration, KeptRule, Rdate, Text, Time};
+use ics_values::{Duration, KeptRule, Rdate, Text, Texts, Time};
 use std::alloc::{AllocError, Global};
 
 /// The value of each property that an event may have once, if its lines give it, and what all its RDATEs and EXDATEs list. Its times name their zones.
@@ -32,11 +32,8 @@ pub struct EventFields {
     pub exdates: Listed<Rdate<Tzid>>,
     pub recurrence: Option<Time<Tzid>>,
     pub sequence: Option<u32>,
-    pub title: Option<Text>,
-    pub location: Option<Text>,
-    pub description: Option<Text>,
+    pub texts: Texts<Option<Text>>,
     pub cancelled: Option<bool>,
-    pub url: Option<Text>,
 }
 
 /// Keeps a value, if there is none before it.
@@ -80,11 +77,8 @@ impl EventFields {
             },
             recurrence: None,
             sequence: None,
-            title: None,
-            location: None,
-            description: None,
+            texts: Texts::nothing(),
             cancelled: None,
-            url: None,
         }
     }
 
@@ -141,11 +135,8 @@ impl EventFields {
             Property::Sequence(number) => keep_first(&mut self.sequence, number),
             Property::Rdates(list) => self.rdates.append(list.values)?,
             Property::Exdates(list) => self.exdates.append(list.values)?,
-            Property::Title(text) => keep_first(&mut self.title, text),
-            Property::Location(text) => keep_first(&mut self.location, text),
-            Property::Description(text) => keep_first(&mut self.description, text),
+            Property::Text(name, text) => self.texts.keep(name, text),
             Property::Cancelled(cancelled) => keep_first(&mut self.cancelled, cancelled),
-            Property::Url(url) => keep_first(&mut self.url, url),
             Property::Other => {}
         }
         Ok(())
@@ -203,9 +194,7 @@ impl EventFields {
                 return Ok(keep_time(&mut self.end, end, calendar)?);
             }
             Name::Duration if self.duration.is_none() => self.duration = Some(lasting(value)?),
-            Name::Summary => keep_first(&mut self.title, Text::of_value(alloc, value)?),
-            Name::Location => keep_first(&mut self.location, Text::of_value(alloc, value)?),
-            Name::Description => keep_first(&mut self.description, Text::of_value(alloc, value)?),
+            Name::Text(text) => self.texts.keep(text, text.read(alloc, value)?),
             _ => return self.property_line(alloc, tzids, calendar, name, content),
         }
         Ok(None)

@@ -3,6 +3,7 @@ ghost use Rattle.std.specs.Prelude.{◌≡◌, ℕ, ◌+◌, ◌<◌, ◌≤◌,
 ghost use Rattle.ics_text.specs.Passing.{IsPassed};
 ghost use Rattle.ics_text.specs.ReadLines.{TakesRead};
 ghost use Rattle.ics_text.specs.Unfolded.{Line, Within};
+ghost use Rattle.ics_values.specs.KeptTexts.{KeptTexts};
 ghost use Rattle.ics_components.specs.Fronts.{IsFirstRead};
 ghost use Rattle.ics_components.specs.Inner.FrontedRound.{IsReadTo};
 ghost use Rattle.ics_components.specs.Inner.KeptPass.{pass_on, GoesBehind};

@@ -2,11 +2,12 @@
 ghost use Rattle.std.specs.Prelude.{◌≡◌, ◌==◌, map};
 ghost use Rattle.std.specs.Str.{bytes_eq};
 ghost use Rattle.ics_text.specs.Bytes.{upper};
-ghost use Rattle.ics_components.specs.Names.{name_of, named_in, other_words};
+ghost use Rattle.ics_values.specs.TextNames.{text_named};
+ghost use Rattle.ics_components.specs.Names.{name_of, named_in, other_words, text_or};
 ghost use Rattle.ics_components.specs.declared.name.Name.TheVariants.{Other};
 ghost use Rattle.ics_components.specs.Inner.Known.{kept_name};
 
-use ics_values::KeptTexts;
+use ics_values::{KeptTexts, TextName};
 
 /// The names that a file is read for.
 #[derive(Clone, Copy)]
@@ -24,14 +25,11 @@ pub enum Name {
     Exdate,
     Exrule,
     Version,
-    Summary,
-    Location,
-    Description,
     Status,
-    Url,
     Tzid,
     OffsetFrom,
     OffsetTo,
+    Text(TextName),
     Other,
 }
 
@@ -98,11 +96,21 @@ fn known_name_of(name: &[u8]) -> Name
     } else if is_called(name, b"EXDATE") {
         Name::Exdate
     } else {
-        other_name_of(name)
+        text_or_other(name)
     }
 }
 
 /// What a property is called that is none of these.
+fn text_or_other(name: &[u8]) -> Name
+    ensures { result ≡ text_or (named_in other_words Other (map upper name.now)) (text_named (map upper name.now)) }
+{
+    match TextName::of(name) {
+        Some(text) => Name::Text(text),
+        None => other_name_of(name),
+    }
+}
+
+/// The same of one that is no text either.
 fn other_name_of(name: &[u8]) -> Name
     ensures { result ≡ named_in other_words Other (map upper name.now) }
 {
@@ -110,16 +118,8 @@ fn other_name_of(name: &[u8]) -> Name
         Name::Exrule
     } else if is_called(name, b"VERSION") {
         Name::Version
-    } else if is_called(name, b"SUMMARY") {
-        Name::Summary
-    } else if is_called(name, b"LOCATION") {
-        Name::Location
-    } else if is_called(name, b"DESCRIPTION") {
-        Name::Description
     } else if is_called(name, b"STATUS") {
         Name::Status
-    } else if is_called(name, b"URL") {
-        Name::Url
     } else if is_called(name, b"TZID") {
         Name::Tzid
     } else if is_called(name, b"TZOFFSETFROM") {
@@ -136,10 +136,7 @@ pub fn kept_as(keep: KeptTexts, name: Name) -> Name
     ensures { result ≡ kept_name keep name }
 {
     match name {
-        Name::Summary if !keep.title => Name::Other,
-        Name::Location if !keep.location => Name::Other,
-        Name::Description if !keep.description => Name::Other,
-        Name::Url if !keep.url => Name::Other,
+        Name::Text(text) if !*keep.at(text) => Name::Other,
         _ => name,
     }
 }

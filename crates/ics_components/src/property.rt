@@ -17,7 +17,7 @@ use crate::rule_value::rule_in;
 use crate::time::{time_of, zone_check};
 use crate::tzid::{Tzid, Tzids};
 use ics_text::Content;
-use ics_values::{Duration, IntegerFault, KeptRule, Text, Time, is_word, read_integer};
+use ics_values::{Duration, IntegerFault, KeptRule, Text, TextName, Time, is_word, read_integer};
 use std::alloc::{AllocError, Global};
 
 /// What a line of an event says, if its value has no fault.
@@ -32,11 +32,8 @@ pub enum Property {
     Sequence(u32),
     Rdates(DateList),
     Exdates(DateList),
-    Title(Text),
-    Location(Text),
-    Description(Text),
+    Text(TextName, Text),
     Cancelled(bool),
-    Url(Text),
     /// One that is not read.
     Other,
 }
@@ -50,13 +47,6 @@ fn sequence(value: &[u8]) -> Result<u32, Refused>
         Err(IntegerFault::NotDigits) => Ok(0),
         Err(IntegerFault::NumberTooLarge) => Err(Refused::Fault(FaultKind::NumberTooLarge)),
     }
-}
-
-/// A value that is no TEXT, as it stands.
-fn verbatim(alloc: Global, value: &[u8]) -> Result<Text, AllocError>
-    ensures { IfOk result (λ text. text ≡ value.now) }
-{
-    Ok(Text::of(Vec::from_slice(alloc, value)?))
 }
 
 impl Property {
@@ -84,11 +74,8 @@ impl Property {
             Name::Exdate => {
                 Property::Exdates(DateList::read(alloc, tzids, Listing::Exdate, content)?)
             }
-            Name::Summary => Property::Title(Text::of_value(alloc, value)?),
-            Name::Location => Property::Location(Text::of_value(alloc, value)?),
-            Name::Description => Property::Description(Text::of_value(alloc, value)?),
+            Name::Text(text) => Property::Text(text, text.read(alloc, value)?),
             Name::Status => Property::Cancelled(is_word(value, b"CANCELLED")),
-            Name::Url => Property::Url(verbatim(alloc, value)?),
             _ => Property::Other,
         })
     }

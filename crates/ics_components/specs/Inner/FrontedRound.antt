@@ -1,8 +1,7 @@
 -- The parts' round over the lines of a front: no event of them is read again.
 use Rattle.std.specs.Prelude.{◌≡◌, ℕ, Bool, true, false, not, ◌||◌, List, [], ◌∷◌, ◌++◌, Option, Some, None, Result, Ok, Err, if◌then◌else◌, option_map}
 use Rattle.std.specs.Option.{option_or}
-use Rattle.ics_values.specs.KeptTexts.{all_texts}
-use Rattle.ics_values.specs.declared.kept_texts.KeptTexts.{KeptTexts}
+use Rattle.ics_values.specs.KeptTexts.{KeptTexts, all_texts}
 use Rattle.ics_components.specs.declared.fault.Fault.{Fault}
 use Rattle.ics_components.specs.declared.fault.FaultKind.TheVariants.{BadLine}
 use Rattle.ics_components.specs.declared.fault.FileFault.{FileFault}

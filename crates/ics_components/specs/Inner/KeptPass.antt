@@ -2,7 +2,7 @@
 use Rattle.std.specs.Prelude.{◌≡◌, ℕ, List, [], ◌∷◌, Option, Some, None, Result, Ok, Err}
 use Rattle.ics_text.specs.ContentLines.{Parts, content_of}
 use Rattle.ics_text.specs.Unfolded.{Line}
-use Rattle.ics_values.specs.declared.kept_texts.KeptTexts.{KeptTexts}
+use Rattle.ics_values.specs.KeptTexts.{KeptTexts}
 use Rattle.ics_components.specs.declared.fault.Fault.{Fault}
 use Rattle.ics_components.specs.declared.fault.FaultKind.TheVariants as kind
 use Rattle.ics_components.specs.declared.first_round.FirstRound.{FirstRound}

@@ -2,7 +2,8 @@
 use Rattle.std.specs.Prelude.{ℕ, Bool, not, List, map, if◌then◌else◌}
 use Rattle.ics_text.specs.Bytes.{upper}
 use Rattle.ics_text.specs.ContentLines.{Parts}
-use Rattle.ics_values.specs.declared.kept_texts.KeptTexts.{KeptTexts}
+use Rattle.ics_values.specs.KeptTexts.{KeptTexts}
+use Rattle.ics_values.specs.TextNames.{text_at}
 use Rattle.ics_components.specs.declared.name.Name.{Name}
 use Rattle.ics_components.specs.declared.name.Name.TheVariants as name
 use Rattle.ics_components.specs.Names.{name_of, same_name}
@@ -14,10 +15,7 @@ is_known text = not (same_name (name_of (map upper text)) name.Other)
 
 -- the name by which a property is read; that of a text that is not kept is none that a file is read for
 abbrev pub kept_name : KeptTexts → Name → Name
-kept_name keep name.Summary = if keep.title then name.Summary else name.Other
-kept_name keep name.Location = if keep.location then name.Location else name.Other
-kept_name keep name.Description = if keep.description then name.Description else name.Other
-kept_name keep name.Url = if keep.url then name.Url else name.Other
+kept_name keep (name.Text text) = if text_at text keep then name.Text text else name.Other
 kept_name keep n = n
 
 abbrev pub read_name : KeptTexts → Parts → Name

@@ -2,8 +2,7 @@
 use Rattle.std.specs.Prelude.{◌≡◌, ℕ, List, ◌∷◌, Some, Result, Ok, Err, IfOk}
 use Rattle.ics_text.specs.ContentLines.{content_of}
 use Rattle.ics_text.specs.Unfolded.{Line}
-use Rattle.ics_values.specs.KeptTexts.{all_texts}
-use Rattle.ics_values.specs.declared.kept_texts.KeptTexts.{KeptTexts}
+use Rattle.ics_values.specs.KeptTexts.{KeptTexts, all_texts}
 use Rattle.ics_components.specs.declared.first_round.FirstRound.{FirstRound}
 use Rattle.ics_components.specs.declared.refused.Refused.{Refused}
 use Rattle.ics_components.specs.declared.refused.Refused.TheVariants as refused

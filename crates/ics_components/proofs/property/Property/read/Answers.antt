@@ -10,9 +10,7 @@ use Rattle.ics_components.proofs.property.Property.read.Goals.{in-Uid+in_ok-of_v
 use Rattle.ics_components.proofs.property.Property.read.Goals.{in-Dtend+in_ok-time_of-in-Dtend, in-Duration+in_ok-lasting-in-Duration}
 use Rattle.ics_components.proofs.property.Property.read.Goals.{in-Rrule+in_ok-rule_in-in-Rrule, in-RecurrenceId+in_ok-time_of-in-RecurrenceId}
 use Rattle.ics_components.proofs.property.Property.read.Goals.{in-Sequence+in_ok-sequence-in-Sequence, in-Rdate+in_ok-read-in-Rdate}
-use Rattle.ics_components.proofs.property.Property.read.Goals.{in-Exdate+in_ok-read-in-Exdate, in-Summary+in_ok-of_value-in-Summary}
-use Rattle.ics_components.proofs.property.Property.read.Goals.{in-Location+in_ok-of_value-in-Location, in-Description+in_ok-of_value-in-Description}
-use Rattle.ics_components.proofs.property.Property.read.Goals.{in-Status, in-Url+in_ok-verbatim-in-Url, in_default}
+use Rattle.ics_components.proofs.property.Property.read.Goals.{in-Exdate+in_ok-read-in-Exdate, in-Text+in_ok-read-in-Text, in-Status, in_default}
 
 -- the names of properties that an event has
 abbrev is_read : Name → Bool
@@ -48,11 +46,8 @@ returns c = elim c.match-name.branch [
   | in-Sequence+in_ok-sequence-in-Sequence w ↦ search rules
   | in-Rdate+in_ok-read-in-Rdate w ↦ search rules
   | in-Exdate+in_ok-read-in-Exdate w ↦ search rules
-  | in-Summary+in_ok-of_value-in-Summary w ↦ search rules
-  | in-Location+in_ok-of_value-in-Location w ↦ search rules
-  | in-Description+in_ok-of_value-in-Description w ↦ search rules
+  | in-Text+in_ok-read-in-Text w ↦ search rules
   | in-Status w ↦ search rules
-  | in-Url+in_ok-verbatim-in-Url w ↦ search rules
   | in_default w ↦
       let other = others c.args.name c.args.content.now
       (grind (
@@ -66,11 +61,8 @@ returns c = elim c.match-name.branch [
         w.in_default.not-Sequence,
         w.in_default.not-Rdate,
         w.in_default.not-Exdate,
-        w.in_default.not-Summary,
-        w.in_default.not-Location,
-        w.in_default.not-Description,
+        w.in_default.not-Text,
         w.in_default.not-Status,
-        w.in_default.not-Url,
       )) in
       (other.0, w.result-is ∙ sym other.1)
 ]
