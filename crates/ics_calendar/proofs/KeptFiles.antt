@@ -2,8 +2,8 @@
 use Rattle.std.proofs.Common.{◌≡◌, ℕ, Bool, true, false, List, [], ◌∷◌, refl, ap, ◌∙◌, Option, Some, None, map}
 use Rattle.std.specs.Prelude.{unwrap_or, Result, Ok, Err}
 use Rattle.std.proofs.lemmas.List.{map-id}
-use Rattle.ics_values.specs.KeptTexts.{all_texts, kept_text}
-use Rattle.ics_values.specs.declared.kept_texts.KeptTexts.{KeptTexts}
+use Rattle.ics_values.specs.KeptTexts.{KeptTexts, all_texts, kept_text}
+use Rattle.ics_values.specs.TextNames.{text_at, texts_of}
 use Rattle.ics_components.specs.Kept.{if_kept, kept_ended, kept_parsed}
 use Rattle.ics_components.specs.ParsedFileSeen.{ParsedFileSeen}
 use Rattle.ics_components.specs.declared.deferred_check.ZoneName.{ZoneName}
@@ -11,6 +11,7 @@ use Rattle.ics_components.specs.declared.fault.Fault.{Fault}
 use Rattle.ics_components.specs.declared.parsed_file.CalendarEvent.{CalendarEvent}
 use Rattle.ics_components.specs.declared.parsed_file.LineCheck.{LineCheck}
 use Rattle.ics_file.specs.File.{FileSaid}
+use Rattle.ics_event.specs.Event.{with_texts}
 use Rattle.ics_event.specs.Kept.{kept_event}
 use Rattle.ics_file.specs.Kept.{kept_said}
 use Rattle.ics_calendar.specs.DeferredChecks.{KnownZones, with_files}
@@ -26,12 +27,8 @@ text-kept false text = refl
 
 module _ (keep : KeptTexts) where
   event-kept : (index : ZoneName → Option ℕ) (e : CalendarEvent) → event_in index (kept_ended keep e) ≡ kept_event keep (event_in index e)
-  event-kept index e = λ i. record (event_of index e.calendar e.fields) {
-    title = text-kept keep.title e.fields.title i;
-    location = text-kept keep.location e.fields.location i;
-    description = text-kept keep.description e.fields.description i;
-    url = text-kept keep.url e.fields.url i;
-  }
+  event-kept index e = λ i.
+      with_texts (texts_of (λ text. text-kept (text_at text keep) (text_at text e.fields.texts) i)) (event_of index e.calendar e.fields)
 
   events-kept : (index : ZoneName → Option ℕ) (events : List CalendarEvent) →
       map (event_in index) (map (kept_ended keep) events) ≡ map (kept_event keep) (map (event_in index) events)

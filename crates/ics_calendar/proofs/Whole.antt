@@ -6,7 +6,7 @@ use Rattle.ics_components.specs.declared.fault.FileFault.{FileFault}
 use Rattle.ics_components.specs.declared.fault.FileFault.TheVariants.{Memory, At}
 use Rattle.ics_calendar.specs.UnresolvedFiles.{IsFaultOf, IsFirstOf}
 use Rattle.ics_file.specs.File.{FileSaid}
-use Rattle.ics_values.specs.declared.kept_texts.KeptTexts.{KeptTexts}
+use Rattle.ics_values.specs.KeptTexts.{KeptTexts}
 use Rattle.ics_components.specs.Faults.{stands}
 use Rattle.ics_calendar.specs.LaterFaults.{stands_later}
 use Rattle.ics_calendar.specs.GivenFiles.{GivenFiles}

@@ -36,9 +36,9 @@ event_of index calendar had = record {
   rdates = map (map_rdate (zone_at index calendar)) had.rdates;
   exdates = map (λ exdate. map_time (zone_at index calendar) (start_of exdate)) had.exdates;
   recurrence = option_map (map_time (zone_at index calendar)) had.recurrence;
-  title = unwrap_or had.title [];
-  location = unwrap_or had.location [];
-  description = unwrap_or had.description [];
+  title = unwrap_or had.texts.title [];
+  location = unwrap_or had.texts.location [];
+  description = unwrap_or had.texts.description [];
   cancelled = unwrap_or had.cancelled false;
-  url = unwrap_or had.url [];
+  url = unwrap_or had.texts.url [];
 }

@@ -3,7 +3,7 @@ use Rattle.std.specs.Prelude.{Result, Ok, Err}
 use Rattle.ics_components.specs.declared.fault.Fault.{Fault}
 use Rattle.ics_file.specs.File.{FileSaid}
 use Rattle.ics_file.specs.Kept.{kept_said}
-use Rattle.ics_values.specs.declared.kept_texts.KeptTexts.{KeptTexts}
+use Rattle.ics_values.specs.KeptTexts.{KeptTexts}
 use Rattle.ics_calendar.specs.Files.{UnresolvedSaid}
 use Rattle.ics_calendar.specs.Parts.{Given}
 

@@ -140,6 +140,7 @@ pub fn event_of(alloc: Global, table: &ZoneTable, ended: CalendarEvent) -> Resul
     ensures { IfOk result (λ event. event ≡ event_in (known_by table.now).index ended) }
 {
     let CalendarEvent { calendar, fields } = ended;
+    let texts = fields.texts;
     Ok(Event {
         start: time_of(table, calendar, start_in(fields.start)),
         length: length_of(table, calendar, given_length(fields.end, fields.duration)),
@@ -149,10 +150,10 @@ pub fn event_of(alloc: Global, table: &ZoneTable, ended: CalendarEvent) -> Resul
         recurrence: fields.recurrence.map(|time| time_of(table, calendar, time)),
         uid: text_in(alloc, fields.uid),
         sequence: fields.sequence.unwrap_or(0),
-        title: text_in(alloc, fields.title),
-        location: text_in(alloc, fields.location),
-        description: text_in(alloc, fields.description),
+        title: text_in(alloc, texts.title),
+        location: text_in(alloc, texts.location),
+        description: text_in(alloc, texts.description),
         cancelled: fields.cancelled.unwrap_or(false),
-        url: text_in(alloc, fields.url),
+        url: text_in(alloc, texts.url),
     })
 }
