@@ -1,11 +1,16 @@
 -- What a request shows of files of which only the texts are kept that its format names is what it shows of the files.
-use Rattle.std.proofs.Common.{◌≡◌, ℕ, ℤ, Bool, true, cond, List, [], ◌∷◌, ◌++◌, map, Option, Some, None, refl, sym, ap, ◌∙◌, subst}
-use Rattle.std.specs.Prelude.{nat_lt}
+use Rattle.std.proofs.Common.{◌≡◌, ℕ, ℤ, Bool, true, false, ◌||◌, cond, List, [], ◌∷◌, ◌++◌, map, Option, Some, None, refl, sym, ap, ◌∙◌, subst}
+use Rattle.std.specs.Prelude.{nat_lt, fold}
 use Rattle.std.specs.List.{filter, list_any}
 use Rattle.std.specs.Option.{option_map}
 use Rattle.std.proofs.lemmas.Bool.{or_right}
 use Rattle.std.proofs.lemmas.List.{length-map, take-map}
 use Rattle.ics_file.specs.File.{FileSaid}
+use Rattle.ics_values.proofs.TextNameLemmas.{kept-with, text-is, text-of}
+use Rattle.ics_values.specs.KeptTexts.{kept_text, no_texts}
+use Rattle.ics_values.specs.TextNames.{same_text, text_at}
+use Rattle.ics_values.specs.declared.text_name.TextName.{TextName}
+use Rattle.ics_event.specs.Event.{texts_in}
 use Rattle.ics_event.specs.Kept.{KeptTexts}
 use Rattle.ics_file.specs.Kept.{kept_said}
 use Rattle.ics_listing.specs.After.{after_key}
@@ -17,7 +22,7 @@ use Rattle.ics_listing.specs.Tokens.{day_spelling, spelling}
 use Rattle.ics_series.proofs.KeptLemmas.{day_listing-kept, kept_entry, kept_on, listing-kept}
 use Rattle.ics_series.proofs.VersionLemmas.{map-in}
 use Rattle.khal_words.specs.declared.field.EntryField.{EntryField}
-use Rattle.khal_words.specs.declared.field.EntryField.TheVariants.{Title, Location, Description, Url}
+use Rattle.khal_words.specs.declared.field.EntryField.TheVariants.{Text}
 use Rattle.khal_words.specs.declared.format.Piece.{Piece}
 use Rattle.khal_words.specs.declared.format.Piece.TheVariants.{Byte, Field}
 use Rattle.khal_words.specs.Formats.{filled, shown_piece}
@@ -25,36 +30,53 @@ use Rattle.khal_reading.specs.Shown.{shown}
 use Rattle.khal_list.specs.declared.every_day.EveryDay.{EveryDay}
 use Rattle.khal_list.specs.declared.request.Request.{Request}
 use Rattle.khal_list.specs.Headline.{Shows, ShowsBy, ShowsDays, ShowsOnce}
-use Rattle.khal_list.specs.Inner.Kept.{is_description, is_location, is_title, is_url, texts_named}
+use Rattle.khal_list.specs.Inner.Kept.{texts_named, with_piece}
 use Rattle.khal_list.specs.Listed.{asked_after, asked_after_day, day_key_on, days_text_of, first_of, is_cut, key_by, key_on, last_by, listing_text, style_of}
 use Rattle.khal_list.specs.Text.{Style, days_text_after, entry_field_text, heading_after, under}
 
 -- THE TEXTS that some pieces name are kept.
-pub record AreKept (keep : KeptTexts) (pieces : List (Piece EntryField)) : Type 0 where
-  pub title : list_any is_title pieces ≡ true → keep.title ≡ true
-  pub location : list_any is_location pieces ≡ true → keep.location ≡ true
-  pub description : list_any is_description pieces ≡ true → keep.description ≡ true
-  pub url : list_any is_url pieces ≡ true → keep.url ≡ true
+abbrev names : TextName → Piece EntryField → Bool
+names name (Field (Text one)) = same_text one name
+names name _ = false
+
+abbrev pub AreKept : KeptTexts → List (Piece EntryField) → Type 0
+AreKept keep pieces = (name : TextName) → list_any (names name) pieces ≡ true → text_at name keep ≡ true
+
+or-none : (a : Bool) → a ≡ (a || false)
+or-none true = refl
+or-none false = refl
+
+or-joined : (a b c : Bool) → ((a || b) || c) ≡ (a || (b || c))
+or-joined true b c = refl
+or-joined false b c = refl
+
+with_piece-at : (name : TextName) (keep : KeptTexts) (piece : Piece EntryField) → text_at name (with_piece keep piece) ≡ (text_at name keep || names name piece)
+with_piece-at name keep (Byte b) = or-none (text_at name keep)
+with_piece-at name keep (Field (Text one)) = kept-with one name keep
+with_piece-at name keep (Field field) = or-none (text_at name keep)
+
+fold-at : (name : TextName) (keep : KeptTexts) (pieces : List (Piece EntryField)) →
+    text_at name (fold with_piece keep pieces) ≡ (text_at name keep || list_any (names name) pieces)
+fold-at name keep [] = or-none (text_at name keep)
+fold-at name keep (piece ∷ pieces) =
+    fold-at name (with_piece keep piece) pieces ∙ (ap (λ t. t || list_any (names name) pieces) (with_piece-at name keep piece)
+    ∙ or-joined (text_at name keep) (names name piece) (list_any (names name) pieces))
 
 named-kept : (pieces : List (Piece EntryField)) → AreKept (texts_named pieces) pieces
-named-kept pieces = record { title = λ h. h; location = λ h. h; description = λ h. h; url = λ h. h }
+named-kept pieces name any =
+    fold-at name no_texts pieces ∙ (ap (λ t. t || list_any (names name) pieces) (text-of (λ name. false) name) ∙ any)
 
 module _ (keep : KeptTexts) where
   rest-kept : (piece : Piece EntryField) (pieces : List (Piece EntryField)) → AreKept keep (piece ∷ pieces) → AreKept keep pieces
-  rest-kept piece pieces h = record {
-    title = λ any. h.title (or_right (is_title piece) (list_any is_title pieces) any);
-    location = λ any. h.location (or_right (is_location piece) (list_any is_location pieces) any);
-    description = λ any. h.description (or_right (is_description piece) (list_any is_description pieces) any);
-    url = λ any. h.url (or_right (is_url piece) (list_any is_url pieces) any);
-  }
+  rest-kept piece pieces h = λ name any. h name (or_right (names name piece) (list_any (names name) pieces) any)
 
   piece-kept : (style : Style) (day : ℤ) (o : Entry) (piece : Piece EntryField) (pieces : List (Piece EntryField)) → AreKept keep (piece ∷ pieces) →
       shown_piece (entry_field_text style day (kept_entry keep o)) piece ≡ shown_piece (entry_field_text style day o) piece
   piece-kept style day o (Byte b) pieces h = refl
-  piece-kept style day o (Field Title) pieces h = rw (h.title refl) refl
-  piece-kept style day o (Field Location) pieces h = rw (h.location refl) refl
-  piece-kept style day o (Field Description) pieces h = rw (h.description refl) refl
-  piece-kept style day o (Field Url) pieces h = rw (h.url refl) refl
+  piece-kept style day o (Field (Text name)) pieces h =
+      let text : List ℕ = text_at name (texts_in o.event) in
+      let kept : text_at name keep ≡ true = h name (ap (λ t. t || list_any (names name) pieces) (text-is name)) in
+      ap shown (text-of (λ name. kept_text (text_at name keep) (text_at name (texts_in o.event))) name ∙ ap (λ k. kept_text k text) kept)
   piece-kept style day o (Field field) pieces h = refl
 
   filled-kept : (style : Style) (day : ℤ) (o : Entry) (pieces : List (Piece EntryField)) → AreKept keep pieces →

@@ -5,9 +5,11 @@ use Rattle.std.specs.Fmt.{signed_decimal}
 use Rattle.std.specs.Int.{int_rem_euclid, int_max}
 use Rattle.std.specs.Option.{option_eq}
 use Rattle.std.specs.Ordering.{int_eq}
+use Rattle.ics_values.specs.TextNames.{text_at}
 use Rattle.ics_values.specs.declared.stamp.Stamp.{Stamp}
 use Rattle.ics_values.specs.declared.stamp.Stamp.TheVariants.{Date, Floating, Utc, Zoned}
 use Rattle.ics_fields.specs.Days.{year_of, month_of, month_day_of, weekday_of, day_index}
+use Rattle.ics_event.specs.Event.{texts_in}
 use Rattle.ics_listing.specs.FileClocks.{Clock}
 use Rattle.ics_starts.specs.Clocks.{local_at}
 use Rattle.ics_listing.specs.Entry.{Entry, rank_of}
@@ -15,8 +17,8 @@ use Rattle.ics_listing.specs.DayKeys.{on_day, OnDay, day_rank_of}
 use Rattle.ics_series.specs.OnDays.{date_at}
 use Rattle.ics_listing.specs.Tokens.{day_spelling, spelling}
 use Rattle.khal_words.specs.declared.field.EntryField.{EntryField}
-use Rattle.khal_words.specs.declared.field.EntryField.TheVariants.{Cell, Title, StartTime, EndTime, StartDate, EndDate, Location, Description, Uid, Cancelled}
-use Rattle.khal_words.specs.declared.field.EntryField.TheVariants.{StartUnix, EndUnix, Token, Url}
+use Rattle.khal_words.specs.declared.field.EntryField.TheVariants.{Cell, StartTime, EndTime, StartDate, EndDate, Uid, Cancelled, StartUnix, EndUnix}
+use Rattle.khal_words.specs.declared.field.EntryField.TheVariants.{Token, Text}
 use Rattle.khal_words.specs.declared.field.DayField.{DayField}
 use Rattle.khal_words.specs.declared.field.DayField.TheVariants as day
 use Rattle.khal_words.specs.declared.format.Piece.{Piece}
@@ -109,19 +111,16 @@ token_text style day e = if style.every_day then day_spelling (day_rank_of (on_d
 -- the value of a placeholder for an entry under this day
 abbrev pub entry_field_text : Style → ℤ → Entry → EntryField → List ℕ
 entry_field_text style day e Cell = cell_text style.clock day e
-entry_field_text style day e Title = shown e.event.title
 entry_field_text style day e StartTime = time_unless_date e (local_at style.clock e.start)
 entry_field_text style day e EndTime = time_unless_date e (local_at style.clock e.finish)
 entry_field_text style day e StartDate = date_text (start_date style.clock e)
 entry_field_text style day e EndDate = date_text (end_date style.clock e)
-entry_field_text style day e Location = shown e.event.location
-entry_field_text style day e Description = shown e.event.description
 entry_field_text style day e Uid = shown e.event.uid
 entry_field_text style day e Cancelled = if e.event.cancelled then codes "CANCELLED " else []
 entry_field_text style day e StartUnix = signed_decimal e.start
 entry_field_text style day e EndUnix = signed_decimal e.finish
 entry_field_text style day e Token = token_text style day e
-entry_field_text style day e Url = shown e.event.url
+entry_field_text style day e (Text name) = shown (text_at name (texts_in e.event))
 
 -- the value of a placeholder for a day
 abbrev pub day_field_text : ℤ → DayField → List ℕ

@@ -127,7 +127,6 @@ pub(crate) fn add_field(
     let event = occurrence.event;
     match field {
         EntryField::Cell => add_cell(text, zone, day, occurrence),
-        EntryField::Title => add_shown(alloc, text, event.title.as_slice()),
         EntryField::StartTime => {
             add_time_unless_date(text, occurrence, zone.local(occurrence.start))
         }
@@ -136,14 +135,12 @@ pub(crate) fn add_field(
         }
         EntryField::StartDate => add_date(text, date_at(zone, occurrence.start)),
         EntryField::EndDate => add_date(text, end_day(zone, occurrence)),
-        EntryField::Location => add_shown(alloc, text, event.location.as_slice()),
-        EntryField::Description => add_shown(alloc, text, event.description.as_slice()),
         EntryField::Uid => add_shown(alloc, text, event.uid.as_slice()),
         EntryField::Cancelled if event.cancelled => text.extend_from_slice(b"CANCELLED "),
         EntryField::Cancelled => Ok(()),
         EntryField::StartUnix => add_moment(alloc, text, occurrence.start),
         EntryField::EndUnix => add_moment(alloc, text, occurrence.finish),
         EntryField::Token => add_token(alloc, text, request, day, occurrence),
-        EntryField::Url => add_shown(alloc, text, event.url.as_slice()),
+        EntryField::Text(name) => add_shown(alloc, text, event.text(name).as_slice()),
     }
 }

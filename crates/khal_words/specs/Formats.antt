@@ -1,6 +1,7 @@
 -- Formats: text with placeholders in braces. The form is the program's own.
 use Rattle.std.specs.Prelude.{◌≡◌, ℕ, Bool, true, ◌==◌, ◌||◌, not, List, [], ◌∷◌, ◌++◌, codes, refl, if◌then◌else◌}
 use Rattle.std.specs.List.{list_all}
+use Rattle.ics_values.specs.declared.text_name.TextName.TheVariants as text
 use Rattle.khal_words.specs.declared.field.EntryField.{EntryField}
 use Rattle.khal_words.specs.declared.field.EntryField.TheVariants as entry
 use Rattle.khal_words.specs.declared.field.DayField.{DayField}
@@ -13,19 +14,19 @@ use Rattle.khal_words.specs.declared.format.Piece.TheVariants.{Byte, Field}
 -- the name of a placeholder of entries, and of days
 abbrev pub entry_name : EntryField → List ℕ
 entry_name entry.Cell = codes "cell"
-entry_name entry.Title = codes "title"
+entry_name (entry.Text text.Summary) = codes "title"
 entry_name entry.StartTime = codes "start-time"
 entry_name entry.EndTime = codes "end-time"
 entry_name entry.StartDate = codes "start-date"
 entry_name entry.EndDate = codes "end-date"
-entry_name entry.Location = codes "location"
-entry_name entry.Description = codes "description"
+entry_name (entry.Text text.Location) = codes "location"
+entry_name (entry.Text text.Description) = codes "description"
 entry_name entry.Uid = codes "uid"
 entry_name entry.Cancelled = codes "cancelled"
 entry_name entry.StartUnix = codes "start-unix"
 entry_name entry.EndUnix = codes "end-unix"
 entry_name entry.Token = codes "token"
-entry_name entry.Url = codes "url"
+entry_name (entry.Text text.Url) = codes "url"
 
 abbrev pub day_name : DayField → List ℕ
 day_name day.Name = codes "name"
@@ -34,9 +35,8 @@ day_name day.Date = codes "date"
 -- all of them
 abbrev pub entry_fields : List EntryField
 entry_fields =
-    entry.Cell ∷ entry.Title ∷ entry.StartTime ∷ entry.EndTime ∷ entry.StartDate ∷ entry.EndDate ∷ entry.Location ∷ entry.Description ∷ entry.Uid ∷
-    entry.Cancelled
-    ∷ entry.StartUnix ∷ entry.EndUnix ∷ entry.Token ∷ entry.Url ∷ []
+    entry.Cell ∷ entry.Text text.Summary ∷ entry.StartTime ∷ entry.EndTime ∷ entry.StartDate ∷ entry.EndDate ∷ entry.Text text.Location
+    ∷ entry.Text text.Description ∷ entry.Uid ∷ entry.Cancelled ∷ entry.StartUnix ∷ entry.EndUnix ∷ entry.Token ∷ entry.Text text.Url ∷ []
 
 abbrev pub day_fields : List DayField
 day_fields = day.Name ∷ day.Date ∷ []
@@ -49,7 +49,7 @@ abbrev pub is_plain : List ℕ → Bool
 is_plain text = list_all (λ b. not (is_brace b)) text
 
 pub entry_names_plain : (field : EntryField) → is_plain (entry_name field) ≡ true
-entry_names_plain entry.Cell = refl
+entry_names_plain (entry.Text text.Summary) = refl
 entry_names_plain field = refl
 
 pub day_names_plain : (field : DayField) → is_plain (day_name field) ≡ true

@@ -2,6 +2,8 @@
 ghost use Rattle.std.specs.Prelude.{◌≡◌, ◌≢◌, ◌↔◌, IfSome, IsNone, IsTrue, List, ℕ, true};
 ghost use Rattle.khal_words.specs.Formats.{entry_name, day_name, entry_names_plain, day_names_plain};
 
+use ics_values::TextName;
+
 /// The text below the help of `list`: all placeholders of entries, and examples.
 pub(crate) const LIST_EXAMPLES: &str = "Without a time zone all times, and `today`, are in UTC.
 
@@ -19,8 +21,6 @@ Examples:
 pub enum EntryField {
     /// The times in eleven columns.
     Cell,
-    /// The event's title.
-    Title,
     /// `HH:MM` by the display zone's clock, and nothing for an event of dates.
     StartTime,
     /// The same of its finish.
@@ -29,8 +29,6 @@ pub enum EntryField {
     StartDate,
     /// The display date of its finish; of an event of dates its last day.
     EndDate,
-    Location,
-    Description,
     Uid,
     /// `CANCELLED ` for an event that is cancelled, and nothing for another.
     Cancelled,
@@ -40,8 +38,8 @@ pub enum EntryField {
     EndUnix,
     /// The token with which a listing continues after it.
     Token,
-    /// The value of its first URL, as it stands.
-    Url,
+    /// The event's text of that name: what the first of its properties that are called so says.
+    Text(TextName),
 }
 
 /// What a placeholder names of a day.
@@ -82,19 +80,19 @@ impl Placeholder for EntryField {
     fn named(text: &[u8]) -> Option<EntryField> {
         match text {
             _ if is(text, "cell") => Some(EntryField::Cell),
-            _ if is(text, "title") => Some(EntryField::Title),
+            _ if is(text, "title") => Some(EntryField::Text(TextName::Summary)),
             _ if is(text, "start-time") => Some(EntryField::StartTime),
             _ if is(text, "end-time") => Some(EntryField::EndTime),
             _ if is(text, "start-date") => Some(EntryField::StartDate),
             _ if is(text, "end-date") => Some(EntryField::EndDate),
-            _ if is(text, "location") => Some(EntryField::Location),
-            _ if is(text, "description") => Some(EntryField::Description),
+            _ if is(text, "location") => Some(EntryField::Text(TextName::Location)),
+            _ if is(text, "description") => Some(EntryField::Text(TextName::Description)),
             _ if is(text, "uid") => Some(EntryField::Uid),
             _ if is(text, "cancelled") => Some(EntryField::Cancelled),
             _ if is(text, "start-unix") => Some(EntryField::StartUnix),
             _ if is(text, "end-unix") => Some(EntryField::EndUnix),
             _ if is(text, "token") => Some(EntryField::Token),
-            _ if is(text, "url") => Some(EntryField::Url),
+            _ if is(text, "url") => Some(EntryField::Text(TextName::Url)),
             _ => None,
         }
     }

@@ -1,5 +1,6 @@
 use Rattle.std.proofs.Common.{◌≡◌, ℕ, List, refl, sym, ap, ◌∙◌, find, bytes_eq}
 use Rattle.std.specs.Prelude.{unwrap_or}
+use Rattle.ics_values.specs.declared.text_name.TextName.TheVariants as text
 use Rattle.khal_words.specs.declared.field.EntryField.{EntryField}
 use Rattle.khal_words.specs.declared.field.EntryField.TheVariants as entry
 use Rattle.khal_words.specs.declared.field.DayField.{DayField}
@@ -17,7 +18,7 @@ one_name : {F : Type 0} (name : F → List ℕ) (of : List ℕ → F) → ((f : 
 one_name name of back f g e = sym (back f) ∙ ap of e ∙ back g
 
 entry_back : (field : EntryField) → named entry_name entry_fields entry.Cell (entry_name field) ≡ field
-entry_back entry.Cell = refl
+entry_back (entry.Text text.Summary) = refl
 entry_back field = refl
 
 day_back : (field : DayField) → named day_name day_fields day.Name (day_name field) ≡ field
