@@ -255,6 +255,7 @@ ROWS = [
     ('100 rules of two days by the clock of New York', lambda: rules(100, 'FREQ=SECONDLY', 'DURATION:P2D', end=''), [*DAY, '--limit', '1', *NEW_YORK], 4, 32),
     ('5,000 days by a clock that turns in three hours of a Monday', lambda: since_0001(1, HOURS_OF_MONDAY, 'DURATION:P5000D'), [*DAY, '--limit', '1'], 4, 32),
     ('seconds by a clock that turns each second', lambda: since_0001(1, EACH_OTHER_SECOND), [*DAY, '--limit', '1'], 8, 32),
+    ('12 events of seconds by it', lambda: since_0001(12, EACH_OTHER_SECOND), [*DAY, '--limit', '1'], 8, 32),
     ('a second each by a clock that turns each minute', lambda: since_0001(1, EACH_OTHER_MINUTE, 'DURATION:PT1S'), [*DAY, '--limit', '1'], 4, 32),
     ('12 rules behind a day that the clock skipped, each day',
      lambda: calendar(seconds(12, '', since='18441221')), ['1845-01-01', '9d', '--limit', '1', '--every-day', '--notstarted', '--zone-file', SKIPPED], 8, 64),

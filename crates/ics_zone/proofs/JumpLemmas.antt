@@ -1,19 +1,22 @@
 -- The offset in force, and the instant at which a clock jumps over a local.
 use Rattle.std.proofs.Common.{◌≡◌, ◌≢◌, ℕ, zero, suc, ◌<◌, inl, inr, Bool, cond, refl, sym, ◌∙◌, arith, List, [], ◌∷◌, ◌++◌, length, Some, None}
-use Rattle.std.proofs.Common.{Contains, ℤ, pos, ◌+ℤ◌, ◌-ℤ◌, ◌<ℤ◌, ◌≤ℤ◌, ap}
+use Rattle.std.proofs.Common.{Contains, All, true, false, ℤ, pos, ◌+ℤ◌, ◌-ℤ◌, ◌<ℤ◌, ◌≤ℤ◌, ap}
 use Rattle.std.proofs.lemmas.Int.{ints}
 use Rattle.std.specs.List.Sorted.{IsPermutation}
+use Rattle.std.proofs.lemmas.List.Elements.{All-push}
 use Rattle.std.proofs.lemmas.List.Sorted.{All-permutation}
 use Rattle.std.proofs.lemmas.Option.{slice_get_within}
 use Rattle.ics_zone.specs.declared.latest.Latest.{Latest}
 use Rattle.ics_zone.specs.declared.latest.Steady.{Steady}
 use Rattle.ics_zone.specs.declared.zone_observances.ZoneObservances.{ZoneObservances}
 use Rattle.ics_zone.specs.declared.onsets.Onsets.{Onsets}
+use Rattle.ics_zone.specs.declared.seconds.OffsetEachSecond.{OffsetEachSecond}
 use Rattle.ics_zone.specs.Observances.{ObservanceSaid}
 use Rattle.ics_zone.specs.ZoneOffsets.{natural, IsOnset, IsInForce, IsBeforeAll, IsOffset, zone_offset, IsNotLater}
 use Rattle.ics_zone.specs.Moments.{shown, IsFirstTime}
 use Rattle.ics_zone.specs.Inner.ZoneOnsets.{HaveOffsets, IsKnown, IsLatest, IsLatestOf, IsFirstOffset, IsNextPast, IsClear, IsJump, IsSteady, IsOverridden}
 use Rattle.ics_zone.specs.Inner.ZoneOnsets.{AreSteady, StayOffset}
+use Rattle.ics_zone.specs.Inner.EachSecond.{TellsOffsets}
 use Rattle.ics_zone.specs.Inner.ZoneBounds.{zone_short}
 use Rattle.ics_zone.specs.Inner.Searches.{natural-is}
 use Rattle.ics_zone.proofs.OnsetLemmas.{offset_found}
@@ -193,17 +196,35 @@ pub natural_less : (end at next : ℤ) → next ≤ℤ end → at <ℤ next → 
 natural_less end at next low less = grind (arith, ints, natural-is)
 
 -- the spans that are held may be others
-known_of : {zone : List ObservanceSaid} {onsets : List Onsets} {offsets : List ℤ} {was now : List Steady} → IsKnown zone onsets offsets was
-    → AreSteady (zone_offset zone) now → IsKnown zone onsets offsets now
-known_of known spans = record { some = known.some; asked = known.asked; all_offsets = known.all_offsets; spans = spans }
+known_of : {zone : List ObservanceSaid} {onsets : List Onsets} {offsets : List ℤ} {was now : List Steady} {each : List OffsetEachSecond}
+    → IsKnown zone onsets offsets was each → AreSteady (zone_offset zone) now → IsKnown zone onsets offsets now each
+known_of known spans =
+    record { some = known.some; asked = known.asked; all_offsets = known.all_offsets; spans = spans; each_second = known.each_second }
 
 -- the same spans are held in another order
-pub held_moved : {zone : List ObservanceSaid} {onsets : List Onsets} {offsets : List ℤ} {was now : List Steady} → IsPermutation was now
-    → IsKnown zone onsets offsets was → IsKnown zone onsets offsets now
+pub held_moved : {zone : List ObservanceSaid} {onsets : List Onsets} {offsets : List ℤ} {was now : List Steady} {each : List OffsetEachSecond}
+    → IsPermutation was now → IsKnown zone onsets offsets was each → IsKnown zone onsets offsets now each
 held_moved {zone = zone} {was = was} {now = now} moved known =
     known_of known (All-permutation (λ (s : Steady). IsSteady (zone_offset zone) s.from s.next s.offset) was now moved known.spans)
 
+-- offsets at each second more are held, or none where memory is refused
+pub each_more : {zone : List ObservanceSaid} {onsets : List Onsets} {offsets : List ℤ} {held : List Steady} {was now : List OffsetEachSecond}
+    (each : OffsetEachSecond) (b : Bool) → now ≡ cond b (was ++ each ∷ []) was → IsKnown zone onsets offsets held was
+    → TellsOffsets (zone_offset zone) each → IsKnown zone onsets offsets held now
+each_more {zone = zone} {was = was} {now = now} each b is known told = record {
+  some = known.some;
+  asked = known.asked;
+  all_offsets = known.all_offsets;
+  spans = known.spans;
+  each_second = rw is (all_more b);
+}
+  where
+    all_more : (b : Bool) → All (TellsOffsets (zone_offset zone)) (cond b (was ++ each ∷ []) was)
+    all_more true = All-push (TellsOffsets (zone_offset zone)) was each known.each_second told
+    all_more false = known.each_second
+
 -- a span more is held, or none where memory is refused
-pub held_more : {zone : List ObservanceSaid} {onsets : List Onsets} {offsets : List ℤ} {was now : List Steady} (s : Steady) (b : Bool)
-    → now ≡ cond b (was ++ s ∷ []) was → IsKnown zone onsets offsets was → IsSteady (zone_offset zone) s.from s.next s.offset → IsKnown zone onsets offsets now
+pub held_more : {zone : List ObservanceSaid} {onsets : List Onsets} {offsets : List ℤ} {was now : List Steady} {each : List OffsetEachSecond} (s : Steady)
+    (b : Bool) → now ≡ cond b (was ++ s ∷ []) was → IsKnown zone onsets offsets was each → IsSteady (zone_offset zone) s.from s.next s.offset
+    → IsKnown zone onsets offsets now each
 held_more {zone = zone} {was = was} s b is known steady = known_of known (steady_pushed {offset = zone_offset zone} was s b is known.spans steady)

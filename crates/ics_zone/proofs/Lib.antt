@@ -20,6 +20,7 @@ pub mod GapLemmas
 pub mod StretchLemmas
 pub mod SweepLemmas
 pub mod TableLemmas
+pub mod EachSecondLemmas
 pub mod CandidateLemmas
 pub mod ReadLemmas
 pub mod BoundsLemmas

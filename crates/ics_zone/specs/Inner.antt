@@ -9,6 +9,7 @@ pub mod Latest
 pub mod OnsetSets
 pub mod ZoneOnsets
 pub mod Tables
+pub mod EachSecond
 pub mod Walks
 pub mod GapStretches
 pub mod Sweeps

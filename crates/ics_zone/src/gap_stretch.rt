@@ -6,7 +6,7 @@ ghost use Rattle.ics_zone.specs.Seconds.{IsMoment};
 ghost use Rattle.ics_zone.specs.Stretches.{IsStretch};
 ghost use Rattle.ics_zone.specs.Inner.GapStretches.{AreUnshown, IsJumpRead};
 ghost use Rattle.ics_zone.specs.Inner.Walks.{IsShort};
-ghost use Rattle.ics_zone.specs.Inner.ZoneOnsets.{AreSteady};
+ghost use Rattle.ics_zone.specs.Inner.ZoneOnsets.{AreSteady, IsSteady};
 
 use crate::Stretch;
 use crate::latest::Steady;
@@ -43,7 +43,7 @@ fn shown_at(seconds: i64, offset: i32) -> Moment
 }
 
 /// An offset that is not less than any of these.
-fn greatest(offsets: &[i32]) -> i32
+pub(crate) fn greatest(offsets: &[i32]) -> i32
     ensures { All (λ offset. offset ≤ℤ result) offsets.now }
 {
     let mut most = i32::MIN;
@@ -106,6 +106,26 @@ fn jump_over(spans: &[Steady], seconds: i64, most: i32) -> Option<Jump>
     None
 }
 
+/// The locals that a clock skips, of those that it does not show, up to what it shows after the jump, and as long as a span about the instant that the
+/// first means reaches.
+pub(crate) fn skipped(unshown: Stretch, jump: &Jump, span: &Steady) -> Stretch
+    requires from { IsMoment unshown.from }
+    requires later { unshown.from <ℤ (jump.now.at +ℤ jump.now.offset) }
+    requires begun { span.now.from ≤ℤ (unshown.from -ℤ jump.now.before) }
+    requires reaches { (unshown.from -ℤ jump.now.before) <ℤ span.now.next }
+    ensures { (offset : ℤ → ℤ) → IsShort offset → AreUnshown offset unshown → IsJumpRead offset unshown.from jump.now
+        → IsSteady offset span.now.from span.now.next span.now.offset → IsStretch offset (moment_by offset) result }
+{
+    let later = shown_near(jump.at, jump.offset);
+    let end = shown_near(span.next, jump.before);
+    Stretch {
+        from: unshown.from,
+        to: unshown.to.min(later.min(end)),
+        offset: i64::from(jump.before),
+        shown: i64::from(span.offset),
+    }
+}
+
 /// A stretch of locals that a clock skips, of those that it does not show. They mean instants by the offset just before the first that shows a later
 /// one. None if the spans do not tell it.
 pub(crate) fn told_gap(offsets: &[i32], spans: &[Steady], unshown: Stretch) -> Option<Stretch>
@@ -117,12 +137,5 @@ pub(crate) fn told_gap(offsets: &[i32], spans: &[Steady], unshown: Stretch) -> O
     let jump = jump_over(spans, seconds, greatest(offsets))?;
     let at = shown_at(seconds, jump.before);
     let span = span_over(spans, at, at)?;
-    let later = shown_near(jump.at, jump.offset);
-    let end = shown_near(span.next, jump.before);
-    Some(Stretch {
-        from: seconds,
-        to: unshown.to.min(later.min(end)),
-        offset: i64::from(jump.before),
-        shown: i64::from(span.offset),
-    })
+    Some(skipped(unshown, &jump, &span))
 }

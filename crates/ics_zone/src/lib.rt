@@ -20,6 +20,7 @@ mod onset_laws;
 mod onsets;
 mod place;
 mod rule_stretch;
+mod seconds;
 mod shared_observed;
 mod shared_table;
 mod sixty;

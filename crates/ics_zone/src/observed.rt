@@ -8,17 +8,20 @@ ghost use Rattle.jiff_core.specs.Calendar.{IsWithin};
 ghost use Rattle.ics_zone.specs.Seconds.{IsDay, IsMoment};
 ghost use Rattle.ics_zone.specs.Inner.Answers.{AreAnswers};
 ghost use Rattle.ics_fields.specs.Locals.{seconds_at};
+ghost use Rattle.ics_zone.specs.Inner.EachSecond.{TellsOffsets};
 ghost use Rattle.ics_zone.specs.Inner.OnsetSets.{IsSearched};
 ghost use Rattle.ics_zone.specs.Inner.ZoneOnsets.{AreOnsetsOfAll, AreSteady, HaveOffsets, IsLatestOf, IsSteady};
 ghost use Rattle.ics_zone.specs.Inner.Tables.{IsTable};
 
 use crate::answers::{Answer, add_answers, group_end};
 use crate::clock::{FIRST_HELD, LAST_HELD, is_moment};
+use crate::gap_stretch::{Jump, greatest};
 use crate::latest::{
     Latest, Steady, clear_after, first_listed, first_offset, latest_of, latest_within, look_on,
     next_change, next_other, next_past, overrides,
 };
 use crate::onsets::Onsets;
+use crate::seconds::OffsetEachSecond;
 use crate::spans::{SpanList, told_stretch};
 use crate::stretches::span_over;
 use crate::table::{first_instant, next_of, onset_of, table_of};
@@ -115,6 +118,22 @@ const BLOCK: i64 = 32 * DAY;
 
 const BLOCKS: i64 = 6;
 
+/// From how many seconds before an instant on the offset at each second is held, and how many after it at most and at least.
+const EACH_BEFORE: i64 = 4 * DAY;
+
+const EACH_AFTER: i64 = 8 * DAY;
+
+const EACH_NEAR: i64 = 2 * DAY;
+
+/// How many seconds are between two onsets there at most, on an average.
+const OFTEN: i64 = 60;
+
+/// How many are between them if most stretches are short.
+const SOON: i64 = 2;
+
+/// For how many instants this is tried.
+const EACH_TRIED: u8 = 3;
+
 /// How many times as long a block is as what is listed near one local.
 const BLOCK_OF_NEAR: usize = 8;
 
@@ -136,6 +155,10 @@ pub struct Observed {
     offsets: Vec<i32>,
     /// Spans about the instants that were given to `reach`, in order.
     held: Vec<Steady>,
+    /// The offsets at each second of some days, where onsets follow each other so often that spans do not reach through them.
+    each_second: Vec<OffsetEachSecond>,
+    /// For how many more instants they are tried.
+    tries: u8,
 }
 
 impl Model for Observed {
@@ -147,7 +170,7 @@ impl Model for Observed {
 
     ghost view = { λ z. z.observances };
 
-    ghost invariant = { λ z. IsKnown z.observances.said.items z.onsets.items z.offsets.items z.held.items };
+    ghost invariant = { λ z. IsKnown z.observances.said.items z.onsets.items z.offsets.items z.held.items z.each_second.items };
 }
 
 impl Observed {
@@ -156,6 +179,7 @@ impl Observed {
     ghost use Rattle.ics_zone.specs.Stretches.{IsStretch};
     ghost use Rattle.ics_zone.specs.ZoneOffsets.{IsOffset, zone_offset};
     ghost use Rattle.ics_zone.specs.Moments.{shown, IsFirstTime, IsInGap, IsMomentOf, zone_moment};
+    ghost use Rattle.ics_zone.specs.Inner.GapStretches.{IsJumpRead};
     ghost use Rattle.ics_zone.specs.Inner.ZoneOnsets.{IsJump, IsSteady};
 
     /// The zone of these observances. `NoObservance` if there is none, `ZoneRule` if one repeats more often than daily, else `Memory` if an allocation fails.
@@ -191,6 +215,8 @@ impl Observed {
             listed_near,
             offsets,
             held: Vec::new(alloc),
+            each_second: Vec::new(alloc),
+            tries: EACH_TRIED,
         })
     }
 
@@ -248,7 +274,8 @@ impl Observed {
     }
 
     /// Makes answers near an instant faster and changes none: the zone answers at every instant, before this call and after it. It holds
-    /// spans from a day before the instant on if there is room for them and no allocation fails. The result is always `Ok`.
+    /// spans from a day before the instant on if there is room for them and no allocation fails. Where these are so short that they end soon, it holds
+    /// the offset at each second of some days. The result is always `Ok`.
     pub fn reach(&mut self, to: Moment) -> Result<(), AllocError>
         ensures same { self.new ≡ self.old }
         ensures always { result ≡ Ok tt }
@@ -265,7 +292,10 @@ impl Observed {
             self.hold_blocks(first, near - DAY, last);
         }
         if self.room == 0 {
-            self.hold_from(first.clamp(near - DAY, last), soon, last);
+            let begin = first.clamp(near - DAY, last);
+            if !self.hold_from(begin, soon, last) {
+                self.reach_each_second(near);
+            }
         }
         Ok(())
     }
@@ -276,6 +306,9 @@ impl Observed {
         ensures means { IsOffset self.now.said.items moment result }
         ensures value { result ≡ zone_offset self.now.said.items moment }
     {
+        if let Some(offset) = self.told_offset(moment) {
+            return offset;
+        }
         let mut place = 0;
         match self.held_over(moment, moment) {
             Some(held) => held.offset,
@@ -290,6 +323,9 @@ impl Observed {
         ensures value { result ≡ zone_moment self.now.said.items (seconds_at local.day local.second) }
     {
         let seconds = seconds_of(local);
+        if self.told_about(seconds).is_some() {
+            return self.moment_by_offsets(seconds);
+        }
         if self.is_dense() {
             if let Some(moment) = self.first_by_offset(seconds) {
                 return moment;
@@ -331,6 +367,9 @@ impl Observed {
         if self.offsets.len() == 1 {
             return Stretch::of_bounds(self.bounds());
         }
+        if let Some(stretch) = self.stretch_each_second(seconds) {
+            return stretch;
+        }
         if let Some(stretch) = told_stretch(&self.offsets, &self.held, seconds) {
             return stretch;
         }
@@ -371,11 +410,15 @@ impl Observed {
     }
 
     /// The spans about a local, given by its seconds, and the local before which they are: those of a long stretch or else as many days on as their
-    /// onsets are not too many. If these are too many for hours or an allocation fails, there are none for a day.
+    /// onsets are not too many. If these are too many for hours or an allocation fails, and where offsets are held second by second, there are none for a
+    /// day.
     fn listed_on(&self, seconds: i64) -> (Moment, Vec<Steady>)
         requires { IsMoment seconds }
         ensures { AreSteady (zone_offset self.now.said.items) result.1.items }
     {
+        if self.told_about(seconds).is_some() {
+            return (seconds + DAY, Vec::new(*self.held.allocator()));
+        }
         if let Some(long) = self.made_on(seconds) {
             return long;
         }
@@ -625,8 +668,8 @@ impl Observed {
         self.held.sort_unstable_by_key(|span| span.from);
     }
 
-    /// Holds the spans from an instant on and up to another, some at a time, but only up to an earlier one if a span is long.
-    fn hold_from(&mut self, from: Moment, soon: Moment, to: Moment)
+    /// Holds the spans from an instant on and up to another, some at a time, but only up to an earlier one if a span is long. Whether they reach so far.
+    fn hold_from(&mut self, from: Moment, soon: Moment, to: Moment) -> bool
         requires from { IsSearched from }
         requires to { IsSearched to }
         requires soon { soon ≤ℤ to }
@@ -636,12 +679,15 @@ impl Observed {
         let mut last = to;
         let ahead = self.first_ahead();
         for made in 0..self.at_once {
-            if at > last || is_enough(made, at - from, ahead) {
-                return;
+            if at > last {
+                return true;
+            }
+            if is_enough(made, at - from, ahead) {
+                return false;
             }
             self.hold_about(at);
             let Some(held) = self.held_over(at, at) else {
-                return;
+                return false;
             };
             if held.next > at + A_LONG_SPAN {
                 last = soon;
@@ -649,6 +695,103 @@ impl Observed {
             last = self.held_to(at, &held, last, from + PASSED_AHEAD);
             at = held.next;
         }
+        at > last
+    }
+
+    /// Holds the offset at each second of some days about an instant, if onsets follow each other often there. They are not made again for instants
+    /// near by, and for few instants in all.
+    fn reach_each_second(&mut self, near: Moment)
+        requires { IsMoment near }
+        ensures { self.new ≡ self.old }
+    {
+        if self.tries == 0 || self.told_over(near - EACH_NEAR, near + EACH_NEAR).is_some() {
+            return;
+        }
+        self.tries -= 1;
+        if let Some(each_second) = self.each_second_about(near) {
+            self.hold_each_second(each_second);
+        }
+    }
+
+    /// Holds offsets at each second, if no allocation fails.
+    fn hold_each_second(&mut self, each_second: OffsetEachSecond)
+        requires { TellsOffsets (zone_offset self.old.said.items) each_second }
+        ensures { self.new ≡ self.old }
+    {
+        self.each_second.push(each_second).ok();
+    }
+
+    /// The offset at each second of some days about an instant, of none if onsets are seldom there. None if they are too many or an allocation fails.
+    fn each_second_about(&self, near: Moment) -> Option<OffsetEachSecond>
+        requires { IsMoment near }
+        ensures { IfSome result (TellsOffsets (zone_offset self.now.said.items)) }
+    {
+        let from = near - EACH_BEFORE;
+        let mut ahead = EACH_AFTER;
+        while ahead >= EACH_NEAR {
+            if let Some(each_second) = self.each_second_between(from, near + ahead) {
+                return Some(each_second);
+            }
+            ahead /= 2;
+        }
+        None
+    }
+
+    /// The offset at each second from an instant on and up to another, of none if onsets are seldom there. None if they are too many or an allocation fails.
+    fn each_second_between(&self, from: Moment, last: Moment) -> Option<OffsetEachSecond>
+        requires from { IsSearched from }
+        requires last { IsSearched last }
+        requires order { from ≤ℤ last }
+        ensures { IfSome result (TellsOffsets (zone_offset self.now.said.items)) }
+    {
+        let alloc = *self.held.allocator();
+        let table = table_of(alloc, &self.onsets, from, last, LISTED)?;
+        let count = table.len() as i64;
+        let seconds = last - from;
+        if count < seconds / OFTEN {
+            return OffsetEachSecond::with_room(alloc, from, from, false);
+        }
+        let is_often = count > seconds / SOON;
+        let mut each_second = OffsetEachSecond::with_room(alloc, from, last + 1, is_often)?;
+        let first = self.first_span(first_instant(&table, last), from, last)?;
+        self.add_each(&first, &mut each_second).ok()?;
+        self.add_offsets(&table, last, &mut each_second).ok()?;
+        Some(each_second)
+    }
+
+    /// Adds the offsets of spans at each second. The error means that an allocation failed.
+    fn add_each(
+        &self,
+        spans: &[Steady],
+        each_second: &mut OffsetEachSecond,
+    ) -> Result<(), AllocError>
+        requires spans { AreSteady (zone_offset self.now.said.items) spans.now }
+        requires told { TellsOffsets (zone_offset self.now.said.items) each_second.old }
+        ensures { TellsOffsets (zone_offset self.now.said.items) each_second.new }
+    {
+        for k in 0..spans.len() {
+            each_second.add(spans[k])?;
+        }
+        Ok(())
+    }
+
+    /// The same of the spans from each onset of a table of those that are not after an instant.
+    fn add_offsets(
+        &self,
+        table: &[i64],
+        last: Moment,
+        each_second: &mut OffsetEachSecond,
+    ) -> Result<(), AllocError>
+        requires last { IsSearched last }
+        requires table { (from : ℤ) × IsTable self.now.said.items from last table.now }
+        requires told { TellsOffsets (zone_offset self.now.said.items) each_second.old }
+        ensures { TellsOffsets (zone_offset self.now.said.items) each_second.new }
+    {
+        for k in 0..table.len() {
+            let span = self.span_from(table, k, last);
+            each_second.add(span)?;
+        }
+        Ok(())
     }
 
     /// Up to where spans are held after one: the earlier of two instants, if the span passes over onsets that begin another offset, from an instant in
@@ -708,6 +851,57 @@ impl Observed {
             }
         }
         0
+    }
+
+    /// The offset at an instant, if it is held for its second.
+    fn told_offset(&self, moment: Moment) -> Option<i32>
+        ensures some { 0 < length self.now.said.items }
+        ensures told { IfSome result (λ told. told ≡ zone_offset self.now.said.items moment) }
+    {
+        for each_second in &self.each_second {
+            if let Some(offset) = each_second.offset_at(moment) {
+                return Some(offset);
+            }
+        }
+        None
+    }
+
+    /// What is held for each second from one instant to another.
+    fn told_over(&self, from: Moment, to: Moment) -> Option<&OffsetEachSecond>
+        ensures { IfSome result (λ told. TellsOffsets (zone_offset self.now.said.items) told.now) }
+    {
+        for each_second in &self.each_second {
+            if each_second.reaches(from, to) {
+                return Some(each_second);
+            }
+        }
+        None
+    }
+
+    /// What is held for each second at which a local, given by its seconds, may be shown.
+    fn told_about(&self, seconds: i64) -> Option<&OffsetEachSecond>
+        requires { IsMoment seconds }
+        ensures { IfSome result (λ told. TellsOffsets (zone_offset self.now.said.items) told.now) }
+    {
+        self.told_over(seconds - DAY, seconds + DAY)
+    }
+
+    /// A stretch from a local on, given by its seconds, by the offsets at each second. None if these are not held, or do not tell so much.
+    fn stretch_each_second(&self, seconds: i64) -> Option<Stretch>
+        requires { IsMoment seconds }
+        ensures { IfSome result (IsStretch (zone_offset self.now.said.items) (zone_moment self.now.said.items)) }
+    {
+        let each_second = self.told_about(seconds)?;
+        each_second.stretch(&self.offsets, seconds)
+    }
+
+    /// The first instant at which the clock shows a later local than one, given by its seconds, by the offsets at each second.
+    fn told_jump(&self, seconds: i64) -> Option<Jump>
+        requires { IsMoment seconds }
+        ensures { IfSome result (IsJumpRead (zone_offset self.now.said.items) seconds) }
+    {
+        let each_second = self.told_about(seconds)?;
+        each_second.jump(seconds, greatest(&self.offsets))
     }
 
     /// A held span that reaches from one instant to another.
@@ -795,6 +989,9 @@ impl Observed {
     fn has_offset(&self, moment: Moment, offset: i32, hint: &mut usize) -> bool
         ensures { MatchBool result (zone_offset self.now.said.items moment ≡ offset) (zone_offset self.now.said.items moment ≢ offset) }
     {
+        if let Some(told) = self.told_offset(moment) {
+            return told == offset;
+        }
         if let Some(held) = self.held_over(moment, moment) {
             return held.offset == offset;
         }
@@ -901,6 +1098,17 @@ impl Observed {
         first
     }
 
+    /// The instant that a local means, by a look at each offset.
+    fn moment_by_offsets(&self, seconds: i64) -> Moment
+        requires { IsMoment seconds }
+        ensures { IsMomentOf self.now.said.items seconds result }
+    {
+        match self.first_by_offset(seconds) {
+            Some(moment) => moment,
+            None => self.across_gap(seconds),
+        }
+    }
+
     /// Whether the clock shows, at an instant, a later local than this one, given by its seconds.
     fn is_past(&self, seconds: i64, moment: Moment) -> bool
         requires { IsSearched moment }
@@ -975,6 +1183,9 @@ impl Observed {
         requires skipped { (t : ℤ) → shown (zone_offset self.now.said.items) t ≢ seconds }
         ensures { IsInGap (zone_offset self.now.said.items) seconds result }
     {
+        if let Some(jump) = self.told_jump(seconds) {
+            return seconds - i64::from(jump.before);
+        }
         let past = self.jump(seconds);
         seconds - i64::from(self.offset(past - 1))
     }

@@ -144,8 +144,8 @@ impl Zone {
     }
 
     /// Makes answers near an instant faster and changes none: the zone answers at every instant, before this call and after it. A zone of
-    /// observances holds the spans about the instant if it is not shared, there is room for them and no allocation fails. The result is
-    /// always `Ok`.
+    /// observances holds the spans about the instant, or the offset at each second, if it is not shared, there is room for them and no allocation
+    /// fails. The result is always `Ok`.
     pub fn reach(&mut self, to: Moment) -> Result<(), AllocError>
         ensures same { self.new ≡ self.old }
         ensures always { result ≡ Ok tt }

@@ -4,8 +4,10 @@ use Rattle.std.specs.List.{All, Contains}
 use Rattle.ics_zone.specs.declared.latest.Latest.{Latest}
 use Rattle.ics_zone.specs.declared.latest.Steady.{Steady}
 use Rattle.ics_zone.specs.declared.onsets.Onsets.{Onsets}
+use Rattle.ics_zone.specs.declared.seconds.OffsetEachSecond.{OffsetEachSecond}
 use Rattle.ics_zone.specs.Observances.{ObservanceSaid}
 use Rattle.ics_zone.specs.ZoneOffsets.{IsOnset, IsNotLater, zone_offset}
+use Rattle.ics_zone.specs.Inner.EachSecond.{TellsOffsets}
 use Rattle.ics_zone.specs.Inner.OnsetSets.{AreOnsetsOf}
 use Rattle.ics_zone.specs.Moments.{shown}
 
@@ -31,12 +33,13 @@ IsSteady offset from next value = (t : ℤ) → from ≤ℤ t → t <ℤ next �
 abbrev pub AreSteady : (ℤ → ℤ) → List Steady → Type 0
 AreSteady offset spans = All (λ (s : Steady). IsSteady offset s.from s.next s.offset) spans
 
--- what a zone holds: at least one observance, the onsets of each, every offset that the zone has, and spans with one offset
-pub record IsKnown (zone : List ObservanceSaid) (onsets : List Onsets) (offsets : List ℤ) (held : List Steady) : Type 0 where
+-- what a zone holds: at least one observance, the onsets of each, every offset that the zone has, spans with one offset, and offsets second by second
+pub record IsKnown (zone : List ObservanceSaid) (onsets : List Onsets) (offsets : List ℤ) (held : List Steady) (each : List OffsetEachSecond) : Type 0 where
   pub some : 0 < length zone
   pub asked : AreOnsetsOfAll zone onsets
   pub all_offsets : (t : ℤ) → Contains offsets (zone_offset zone t)
   pub spans : AreSteady (zone_offset zone) held
+  pub each_second : All (TellsOffsets (zone_offset zone)) each
 
 -- the greatest onset not after t of the first `count` observances
 pub record IsLatest (zone : List ObservanceSaid) (t : ℤ) (count : ℕ) (latest : Latest) : Type 0 where

@@ -4,6 +4,14 @@ use Rattle.ics_zone.specs.Moments.{IsMomentOf}
 use Rattle.ics_zone.proofs.MomentLemmas.{is_found}
 use Rattle.ics_zone.proofs.observed.Observed.moment.Goals as goal
 
+pub returns-then-is_some : goal.returns-then-is_some
+returns-then-is_some c =
+    let fits : SFits w64 c.seconds_of-seconds.result = search rules in
+    let is : IsMomentOf c.args.self.now.said.items c.seconds_of-seconds.result c.moment_by_offsets.result =
+    simp to_z-of_z at c.moment_by_offsets.ensures in
+    rw (to_z-of_z w64 c.moment_by_offsets.result (search rules), sym c.seconds_of-seconds.ensures)
+    (record { means = is; value = is_found c.args.self.now c.seconds_of-seconds.result _ is })
+
 pub returns-in-Some : goal.returns-in-Some
 returns-in-Some c =
     let fits : SFits w64 c.seconds_of-seconds.result = search rules in

@@ -5,7 +5,12 @@ use Rattle.ics_zone.proofs.observed.Observed.offset.Goals as goal
 
 pub returns-in-Some-clause-means : goal.returns-in-Some-clause-means
 returns-in-Some-clause-means c =
-    rw (to_z-of_z w32 c.in-Some.held.offset (search rules), c.in-Some.ensures.steady c.args.moment (search rules) (search rules))
+    let is = simp (to_z-of_z, c.ranges.moment) at c.in-Some.ensures.told in
+    rw (to_z-of_z w32 c.in-Some.offset (search rules), is) (is_offset c.args.self.now c.told_offset.ensures.some c.args.moment)
+
+pub returns-in-Some-held_over-clause-means : goal.returns-in-Some-held_over-clause-means
+returns-in-Some-held_over-clause-means c =
+    rw (to_z-of_z w32 c.in-Some-held_over.held.offset (search rules), c.in-Some-held_over.ensures.steady c.args.moment (search rules) (search rules))
     (is_offset c.args.self.now c.held_over.ensures.some c.args.moment)
 
 pub returns-in-None-clause-means : goal.returns-in-None-clause-means

@@ -19,6 +19,7 @@ invariant_of-result c =
       asked = asked;
       all_offsets = offsets_found zone there c.in-Ok-offsets_of.offsets.items have;
       spans = λ k d h. absurd (omega arith);
+      each_second = λ k d h. absurd (omega arith);
     }
 
 pub returns-then-is_empty-clause-none : goal.returns-then-is_empty-clause-none
