@@ -17,18 +17,18 @@ const RESTS: usize = 1_024;
 
 const A_YEAR: u64 = 366;
 
-/// Whether few days of a year are allowed, so that a look at each, with its steps, takes less than one at all days. Short steps are not asked for.
+/// Whether few days of a year are allowed, so that a look at each, with its steps, takes less than one at all days. Short steps are not asked for,
+/// except where days are listed: those of a year are then found once, not for each rest of the interval.
 pub(crate) fn lets_few(search: &Search<'_>, from: u64) -> bool
     requires { from ≤ days_before_year 9_801 + 1 }
 {
     let parts = search.parts;
     let unit = seconds_of(parts.frequency);
-    if parts.interval < A_SHORT_MONTH
-        || unit == 0
-        || unit >= 86_400
-        || names_weekdays_alone(parts)
-    {
+    if unit == 0 || unit >= 86_400 || names_weekdays_alone(parts) {
         return false;
+    }
+    if parts.interval < A_SHORT_MONTH {
+        return parts.interval > 1 && lists_days(parts);
     }
     let mut steps = 0;
     if parts.interval as usize > RESTS {
