@@ -19,12 +19,12 @@ period_again Monthly w n k = grind (arith, year_again k (n / 86_400), month_agai
 period_again Yearly w n k = grind (arith, year_again k (n / 86_400))
 period_again f w n k = omega arith
 
-first_again : (f : Frequency) (w p k : ℕ) → 2 ≤ p → first_local f w (p + k * calendar_periods f) ≡ first_local f w p + k * 12_622_780_800
+pub first_again : (f : Frequency) (w p k : ℕ) → 2 ≤ p → first_local f w (p + k * calendar_periods f) ≡ first_local f w p + k * 12_622_780_800
 first_again Monthly w p k h = grind (arith, years_again k ((p - 1) / 12), months_again k ((p - 1) / 12) ((p - 1) % 12))
 first_again Yearly w p k h = grind (arith, years_again k p)
 first_again f w p k h = omega arith
 
-some_periods : (f : Frequency) → 1 ≤ calendar_periods f
+pub some_periods : (f : Frequency) → 1 ≤ calendar_periods f
 some_periods f = grind arith
 
 -- so many periods are whole steps

@@ -17,6 +17,7 @@ mod PassedLemmas
 mod EachLemmas
 mod NeverLemmas
 mod MostLemmas
+mod FilledLemmas
 mod OpenLemmas
 mod RestLemmas
 mod TableSteps

@@ -29,6 +29,7 @@ use Rattle.ics_period.proofs.PeriodLemmas.{begun, begins, before_first, before_n
 use Rattle.ics_period.proofs.WeekLemmas.{year_day_is}
 use Rattle.ics_period.proofs.RankLemmas.{count_flat}
 use Rattle.ics_rule.specs.Inner.Rounds.{seconds_of}
+use Rattle.ics_rule.specs.Inner.Filled.{first_day, locals_between}
 use Rattle.ics_rule.specs.Inner.OpenPeriods.{lets_own, lets_within, size_of_open, listed_in_month, listed_in_year, of_weekdays, most_days}
 use Rattle.ics_rule.proofs.RoundLemmas.{date_alike}
 use Rattle.ics_rule.proofs.EachLemmas.{clock_split, within_at, in_period, size_daily}
@@ -111,10 +112,7 @@ short_size q start n fine unit =
     omega (arith, most, ap (λ y. y * count u (lets_within f q)) (count_later x 1))
 
 -- a longer period has whole days
-abbrev pub first_day : Frequency → ℕ → ℕ → ℕ
-first_day f w p = first_local f w p / 86_400
-
-is_day : (f : Frequency) (w p : ℕ) → (seconds_of f ≡ 0) ⊎ (86_400 < seconds_of f) → first_day f w p * 86_400 ≡ first_local f w p
+pub is_day : (f : Frequency) (w p : ℕ) → (seconds_of f ≡ 0) ⊎ (86_400 < seconds_of f) → first_day f w p * 86_400 ≡ first_local f w p
 is_day f w p h = grind arith
 
 days : Frequency → ℕ
@@ -208,7 +206,7 @@ module _ (q : EffectiveRule) (a : ℕ) where
   abbrev is_open : ℕ → Bool
   is_open e = nat_le a e && lets_date q e
 
-  from_first : (len : ℕ) → count (a + len) is_open ≡ count len (λ k. lets_date q (a + k))
+  pub from_first : (len : ℕ) → count (a + len) is_open ≡ count len (λ k. lets_date q (a + k))
   from_first len = count-from a len is_open (λ m l. grind (arith, nat_tests))
       ∙ count-same len (λ k. is_open (a + k)) (λ k. lets_date q (a + k)) (λ k l. ap (λ b. b && lets_date q (a + k)) (not_earlier a (a + k) (omega arith)))
 
@@ -372,6 +370,24 @@ same_time q m =
     let second : m % 86_400 % 60 ≡ m % 60 = omega arith in
     rw (hour, minute, second) refl
 
+-- a longer period has at most the times of a day on each day that is allowed
+pub days_size : (q : EffectiveRule) (start n : ℕ) → (seconds_of q.frequency ≡ 0) ⊎ (86_400 < seconds_of q.frequency)
+    → size q start n ≤ locals_between q (first_day q.frequency (monday_zero q.week_start) (period_in q n))
+    (first_day q.frequency (monday_zero q.week_start) (suc (period_in q n)))
+days_size q start n long =
+    let f = q.frequency in
+    let w = monday_zero q.week_start in
+    let x = period_in q n in
+    let a = first_day f w x in
+    let b = first_day f w (suc x) in
+    let day = is_day f w x long in
+    let next = is_day f w (suc x) long in
+    in_blocks q start n b 86_400 (is_open q a) (lets_clock q)
+    (λ m same. let early = before_next f w (suc x) m (omega (arith, same)) in omega (arith, early, next))
+    (λ m same on. both_true (nat_le a (day_of m)) (lets_date q (day_of m)) (not_earlier a (day_of m)
+    (let late = begun f w x m (omega (arith, same)) in omega (arith, late, day))) on)
+    (λ m is. same_time q m ∙ is)
+
 pub long_size : (q : EffectiveRule) (start n : ℕ) → (seconds_of q.frequency ≡ 0) ⊎ (86_400 < seconds_of q.frequency)
     → size q start n ≤ most_days q.frequency q * count 86_400 (lets_clock q)
 long_size q start n long =
@@ -386,11 +402,7 @@ long_size q start n long =
     let in_a = begun f w x n (omega arith) in
     let in_b = before_next f w (suc x) n (omega arith) in
     let whole : a + (b - a) ≡ b = omega (arith, day, next, in_a, in_b) in
-    let most = in_blocks q start n b 86_400 (is_open q a) (lets_clock q)
-    (λ m same. let early = before_next f w (suc x) m (omega (arith, same)) in omega (arith, early, next))
-    (λ m same on. both_true (nat_le a (day_of m)) (lets_date q (day_of m)) (not_earlier a (day_of m)
-    (let late = begun f w x m (omega (arith, same)) in omega (arith, late, day))) on)
-    (λ m is. same_time q m ∙ is) in
+    let most = days_size q start n long in
     let few = mul-le-mul_right (count 86_400 (lets_clock q))
     (open_days q x (b - a) f refl long whole (omega (arith, day, next, end))) in
     let same = ap (λ z. count z (is_open q a) * count 86_400 (lets_clock q)) whole in

@@ -4,4 +4,5 @@ pub mod Searches
 pub mod Rounds
 pub mod OpenPeriods
 pub mod Quiet
+pub mod Filled
 pub mod Given

@@ -4,6 +4,7 @@
 mod count;
 mod cursor;
 mod each_day;
+mod filled;
 mod given;
 mod hour;
 mod laws;

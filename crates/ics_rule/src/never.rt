@@ -25,7 +25,7 @@ fn readings(part: BitSet, size: u8) -> u64
 }
 
 /// How many times of a day a rule allows.
-fn times_of_day(parts: &EffectiveRule) -> u64
+pub(crate) fn times_of_day(parts: &EffectiveRule) -> u64
     ensures value { result ≡ count 86400 (lets_clock parts.now) }
     ensures bound { result ≤ 216000 }
 {

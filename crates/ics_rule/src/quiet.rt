@@ -7,8 +7,10 @@ ghost use Rattle.ics_rule.specs.Inner.Searches.{NoneWanted};
 ghost use Rattle.ics_period.specs.PeriodNumbers.{rules_end};
 
 use crate::cursor::{Cursor, RULES_END};
+use crate::filled::next_filled;
 use crate::never::has_no_time;
 use crate::pass::next_allowed;
+use crate::rounds::seconds_of;
 use crate::search::Search;
 use crate::walk::next_step;
 use ics_period::{EffectiveRule, first_local, period_of};
@@ -53,6 +55,28 @@ fn next_by_date(search: &Search<'_>, from: u64) -> u64
     if has_no_time(search) { RULES_END } else { at }
 }
 
+/// The same, by BYSETPOS too: periods longer than a day are passed over that have too few allowed locals for it.
+fn next_by_parts(search: &Search<'_>, from: u64) -> u64
+    requires from { from < rules_end }
+    ensures none { NoneChosen search.now.parts.now search.now.start from result }
+    ensures inside { result < calendar_end }
+{
+    let parts = search.parts;
+    let open = next_by_date(search, from);
+    if open >= RULES_END || parts.positions.is_empty() {
+        return open;
+    }
+    let unit = seconds_of(parts.frequency);
+    if unit > 0 && unit <= 86_400 {
+        return open;
+    }
+    let filled = next_filled(search, open);
+    if filled <= open || filled >= RULES_END {
+        return filled;
+    }
+    next_by_date(search, filled)
+}
+
 impl Cursor {
     /// Whether COUNT keeps none from the place on, as far as the period held tells.
     pub(crate) fn is_counted_out(&self, parts: &EffectiveRule, count: Option<u32>) -> bool
@@ -91,12 +115,12 @@ impl Cursor {
                         if end >= RULES_END {
                             RULES_END
                         } else {
-                            next_by_date(search, end)
+                            next_by_parts(search, end)
                         }
                     }
                 }
             }
-            _ => next_by_date(search, self.place),
+            _ => next_by_parts(search, self.place),
         }
     }
 }

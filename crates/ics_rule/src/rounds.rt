@@ -131,7 +131,7 @@ fn even_round_of(search: &Search<'_>) -> Option<u64>
 }
 
 /// How many periods the calendar's 400 years have, after which its dates and weekdays repeat.
-fn calendar_periods(frequency: Frequency) -> u64
+pub(crate) fn calendar_periods(frequency: Frequency) -> u64
     ensures value { result ≡ calendar_periods frequency }
     ensures some { 1 ≤ result }
     ensures bound { result < 2 ^ 40 }

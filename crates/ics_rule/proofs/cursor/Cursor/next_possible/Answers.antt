@@ -39,4 +39,4 @@ returns-else-end-ge-RULES_END-clause-none c =
     let at = (goal.at.returns-else-end-ge-RULES_END-clause-none c).Then-number-own in
     let none = rw (own_number at) at (held_none c.args.search.now.start held.0 c.args.self.now.place (here at) c.in-None.ensures.next) in
     joined c.args.search.now.parts.now c.args.search.now.start c.first_local-end.result
-    (λ n l u. none n l (omega (arith, u, c.first_local-end.ensures))) c.next_by_date.ensures.none
+    (λ n l u. none n l (omega (arith, u, c.first_local-end.ensures))) c.next_by_parts.ensures.none
