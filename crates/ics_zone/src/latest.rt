@@ -5,7 +5,8 @@ ghost use Rattle.jiff_core.specs.Calendar.{IsWithin};
 ghost use Rattle.ics_zone.specs.Observances.{ObservanceSaid};
 ghost use Rattle.ics_zone.specs.Inner.OnsetSets.{Has, IsSearched, IsSound};
 ghost use Rattle.ics_zone.specs.Seconds.{IsMoment};
-ghost use Rattle.ics_zone.specs.Inner.ZoneOnsets.{AreOnsetsOfAll, IsLatestOf, IsLatestWithin, IsFirstOffset, IsNextPast, IsClear, IsOverridden, KeepOffset, StayOffset};
+ghost use Rattle.ics_zone.specs.Inner.ZoneOnsets.{AreOnsetsOfAll, IsLatestOf, IsLatestWithin, IsFirstOffset, IsNextPast, IsClear, IsOverridden};
+ghost use Rattle.ics_zone.specs.Inner.ZoneOnsets.{KeepOffset, StayOffset};
 
 use crate::clock::{EPOCH, FIRST_HELD, LAST_HELD};
 use crate::onsets::Onsets;
