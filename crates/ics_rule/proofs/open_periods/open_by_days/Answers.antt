@@ -1,4 +1,3 @@
-use Rattle.std.proofs.lemmas.Grind.{common_steps}
 use Rattle.std.proofs.Common.{arith}
 use Rattle.std.proofs.lemmas.Nat.{div-add-mod'}
 use Rattle.ics_period.proofs.Counts.{count_most}
@@ -13,15 +12,3 @@ overflow_add-result-2 c = grind (arith, count_most, day_seconds)
 
 pub returns : goal.returns
 returns c = grind (arith, day_seconds)
-
-pub open_in_day-requires : goal.open_in_day-requires
-open_in_day-requires c = grind (arith, common_steps)
-
-pub open_in_day-requires-2 : goal.open_in_day-requires-2
-open_in_day-requires-2 c = grind (arith, common_steps)
-
-pub open_in_day-requires-3 : goal.open_in_day-requires-3
-open_in_day-requires-3 c = grind (arith, common_steps)
-
-pub open_of_days-requires : goal.open_of_days-requires
-open_of_days-requires c = grind (arith, common_steps)
