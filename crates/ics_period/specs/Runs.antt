@@ -3,6 +3,8 @@ use Rattle.std.specs.Prelude.{◌≡◌, ℕ, ◌+◌, ◌-◌, ◌/◌, ◌%◌
 use Rattle.jiff_core.specs.Calendar.{days_in_month, days_in_year, days_of_months}
 use Rattle.ics_fields.specs.declared.frequency.Frequency.{Frequency}
 use Rattle.ics_fields.specs.declared.frequency.Frequency.TheVariants.{Secondly, Minutely, Hourly, Daily, Weekly, Monthly, Yearly}
+use Rattle.ics_fields.specs.declared.ordinals.Side.{Side}
+use Rattle.ics_fields.specs.declared.ordinals.Side.TheVariants.{Front, Back}
 use Rattle.ics_fields.specs.declared.ordinals.Weekdays.{Weekdays}
 use Rattle.ics_fields.specs.declared.ordinals.Ordinals.{Ordinals}
 use Rattle.ics_fields.specs.Sets.{is_empty, contains}
@@ -77,3 +79,8 @@ IsSpan Secondly p first len = Unit {0}
 -- week n of a year of 52 weeks, or of 53, is listed
 abbrev pub may_list_week : Ordinals → ℕ → Bool
 may_list_week w n = contains w.front n || contains w.back (53 - n) || contains w.back (54 - n)
+
+-- the number, from an end, of day m of a year of len days
+abbrev pub number_from : Side → ℕ → ℕ → ℕ
+number_from Front m len = m + 1
+number_from Back m len = len - m

@@ -1,20 +1,21 @@
 //! The days of a period that a rule allows.
-ghost use Rattle.std.specs.Prelude.{◌≡◌, ℕ, ◌<◌, ◌≤◌, ◌+◌, ◌-◌, ◌&&◌, nat_lt, pos, true};
+ghost use Rattle.std.specs.Prelude.{◌≡◌, ℕ, ◌<◌, ◌≤◌, ◌+◌, ◌-◌, ◌&&◌, ◌||◌, nat_lt, pos, true};
 ghost use Rattle.jiff_core.specs.Calendar.{days_in_month, days_in_year};
 ghost use Rattle.ics_fields.specs.declared.frequency.Frequency.TheVariants.{Weekly, Monthly, Yearly};
 ghost use Rattle.ics_fields.specs.Sets.{contains_wide, none_wide};
 ghost use Rattle.ics_fields.specs.Days.{weekday_of, year_of};
 ghost use Rattle.ics_period.specs.PeriodNumbers.{day_before};
 ghost use Rattle.ics_period.specs.Candidates.{lets_date, lets_wide_place};
-ghost use Rattle.ics_period.specs.Runs.{IsMonth, IsSpan, is_in_month, goes_by_months, counts_in_month};
+ghost use Rattle.ics_period.specs.Runs.{IsMonth, IsSpan, is_in_month, goes_by_months, counts_in_month, number_from};
 
 use crate::date::{goes_by_months, lets_date, names_weekdays_alone, open_months};
 use crate::effective_rule::EffectiveRule;
+use crate::part::PlacesPart;
 use crate::recurrence_period::days_before_month;
 use crate::runs::Run;
-use crate::time::{lets, lets_wide_place};
-use crate::weeks::days_near_weeks;
-use ics_fields::{Frequency, WideBitSet};
+use crate::time::lets;
+use crate::weeks::{add_between, days_near_weeks};
+use ics_fields::{Frequency, Side, WideBitSet};
 use jiff_core::civil::days_in_month;
 
 /// The weekday, from 0 for Monday, of a day that is counted from 0000-01-01.
@@ -78,18 +79,55 @@ fn those_let_in(parts: &EffectiveRule, first: u32, some: &WideBitSet) -> WideBit
     days
 }
 
+/// The day of a year of `len` days that is the `n`-th from an end.
+fn nth_day(side: Side, n: u16, len: u16) -> u16
+    requires some { 1 ≤ n }
+    requires most { n ≤ len }
+    ensures within { result < len }
+    ensures number { number_from side result len ≡ n }
+{
+    match side {
+        Side::Front => n - 1,
+        Side::Back => len - n,
+    }
+}
+
+/// Adds the days of a year of `len` days whose numbers from an end are listed.
+fn add_numbered_days(listed: &WideBitSet, side: Side, len: u16, days: &mut WideBitSet)
+    requires { len ≤ 366 }
+    ensures { (m : ℕ) → contains_wide days.new m ≡ (contains_wide days.old m || (nat_lt m len && contains_wide listed.now (number_from side m len))) }
+{
+    let mut from = 1;
+    while let Some(n) = listed.next_from(from) {
+        if n > len {
+            return;
+        }
+        days.insert(nth_day(side, n, len));
+        from = n + 1;
+    }
+}
+
+/// The days that a part allows in a year of `len` days.
+fn days_of_places(places: &PlacesPart, len: u16) -> WideBitSet
+    requires { len ≤ 366 }
+    ensures { (k : ℕ) → contains_wide result k ≡ (nat_lt k len && lets_wide_place places.now (k + 1) len) }
+{
+    let mut days = WideBitSet::new();
+    if places.is_empty() {
+        add_between(&mut days, 0, len);
+        return days;
+    }
+    add_numbered_days(&places.list.front, Side::Front, len, &mut days);
+    add_numbered_days(&places.list.back, Side::Back, len, &mut days);
+    days
+}
+
 /// The days that BYYEARDAY allows in a year of `len` days.
 pub(crate) fn days_by_number(parts: &EffectiveRule, len: u16) -> WideBitSet
     requires { len ≤ 366 }
     ensures { (k : ℕ) → contains_wide result k ≡ (nat_lt k len && lets_wide_place parts.now.year_days (k + 1) len) }
 {
-    let mut days = WideBitSet::new();
-    for k in 0..len {
-        if lets_wide_place(&parts.year_days, k + 1, len) {
-            days.insert(k);
-        }
-    }
-    days
+    days_of_places(&parts.year_days, len)
 }
 
 /// The number of days in a month of a year of `len` days.

@@ -13,7 +13,7 @@ use crate::effective_rule::EffectiveRule;
 use ics_fields::{BitSet, Ordinals, WideBitSet};
 
 /// Adds the days from `low` on and before `end`.
-fn add_between(days: &mut WideBitSet, low: u16, end: u16)
+pub(crate) fn add_between(days: &mut WideBitSet, low: u16, end: u16)
     requires { end ≤ 384 }
     ensures { (m : ℕ) → contains_wide days.new m ≡ (contains_wide days.old m || (nat_le low m && nat_lt m end)) }
 {

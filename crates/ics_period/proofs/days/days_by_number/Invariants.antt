@@ -1,7 +1,0 @@
-use Rattle.std.proofs.Common.{◌≡◌, ℕ, ◌+◌, ◌&&◌, nat_lt}
-use Rattle.ics_fields.specs.Sets.{contains_wide}
-use Rattle.ics_period.specs.Candidates.{lets_wide_place}
-use Rattle.ics_period.proofs.days.days_by_number.Given as goal
-
-abbrev pub invariant-loop-k : goal.invariant-loop-k
-invariant-loop-k l = (m : ℕ) → contains_wide l.days m ≡ (nat_lt m l.k && lets_wide_place l.parts.year_days (m + 1) l.len)
