@@ -213,12 +213,26 @@ module _ (q : EffectiveRule) (a : ℕ) where
   at_most : (len : ℕ) → count (a + len) is_open ≤ len
   at_most len = let from = from_first len in let most = count_most len (λ k. lets_date q (a + k)) in omega (arith, from, most)
 
+  listed_there : (b : Bool) {c : Bool} → b ≡ false → (b || c) ≡ true → c ≡ true
+  listed_there b h o = grind arith
+
+  -- where a part lists days, by their numbers from the first and from the last
+  listed_days : (front back : ℕ → Bool) {len room : ℕ} → len ≤ room → (b : Bool)
+      → (b ≡ false → (k : ℕ) → k < len → lets_date q (a + k) ≡ true → (front (k + 1) || back (len - k)) ≡ true)
+      → count (a + len) is_open ≤ cond b room (count (room + 1) front + count (room + 1) back)
+  listed_days front back {len = len} short true listed = let most = at_most len in omega (arith, most, short)
+  listed_days front back {len = len} {room = room} short false listed =
+      let fewer = count_fewer len (λ k. lets_date q (a + k)) (λ k. front (k + 1) || back (len - k)) (listed refl) in
+      let early = count_mono (len + 1) (room + 1) front (omega (arith, short)) in
+      let late = count_mono (len + 1) (room + 1) back (omega (arith, short)) in
+      omega (arith, from_first len, fewer, listed_most front back len, early, late)
+
   -- where BYMONTHDAY lists days of the month that begins with the first
   module _ (x len : ℕ) (begin : a ≡ month_start x) (end : a + len ≡ month_start (suc x))
       (here : (k : ℕ) → k < len → month_number (a + k) ≡ x) where
-    month_day_in : (k : ℕ) → k < len → lists_none q.month_days ≡ false → lets_date q (a + k) ≡ true
+    month_day_in : lists_none q.month_days ≡ false → (k : ℕ) → k < len → lets_date q (a + k) ≡ true
         → (contains q.month_days.front (k + 1) || contains q.month_days.back (len - k)) ≡ true
-    month_day_in k l some is =
+    month_day_in some k l is =
         let e = a + k in
         let allowed : lets_place q.month_days (month_day_of e) (days_in_month (pos (year_of e)) (month_of e)) ≡ true = grind (arith, and_parts) in
         let place = month_place e in
@@ -229,32 +243,13 @@ module _ (q : EffectiveRule) (a : ℕ) where
         ap (λ z. contains q.month_days.front z || contains q.month_days.back (len - k)) (sym day)
         ∙ ap (λ z. contains q.month_days.front (month_day_of e) || contains q.month_days.back z) (sym back)
         ∙ listed_there (lists_none q.month_days) some allowed
-      where
-        listed_there : (b : Bool) {c : Bool} → b ≡ false → (b || c) ≡ true → c ≡ true
-        listed_there b h o = grind arith
-
-    in_month : len ≤ 31 → (b : Bool) → lists_none q.month_days ≡ b
-        → count (a + len) is_open ≤ cond b 31 (count 32 (contains q.month_days.front) + count 32 (contains q.month_days.back))
-    in_month short true none = let most = at_most len in omega (arith, most, short)
-    in_month short false some =
-        let front = contains q.month_days.front in
-        let back = contains q.month_days.back in
-        let fewer = count_fewer len (λ k. lets_date q (a + k)) (λ k. front (k + 1) || back (len - k)) (λ k l is. month_day_in k l some is) in
-        omega (
-          arith,
-          from_first len,
-          fewer,
-          listed_most front back len,
-          count_mono (len + 1) 32 front (omega (arith, short)),
-          count_mono (len + 1) 32 back (omega (arith, short)),
-        )
 
   -- where BYYEARDAY lists days of the year that begins with the first
   module _ (x len : ℕ) (begin : a ≡ days_before_year x) (end : a + len ≡ days_before_year (suc x))
       (here : (k : ℕ) → k < len → year_of (a + k) ≡ x) where
-    year_day_in : (k : ℕ) → k < len → lists_none_wide q.year_days ≡ false → lets_date q (a + k) ≡ true
+    year_day_in : lists_none_wide q.year_days ≡ false → (k : ℕ) → k < len → lets_date q (a + k) ≡ true
         → (contains_wide q.year_days.front (k + 1) || contains_wide q.year_days.back (len - k)) ≡ true
-    year_day_in k l some is =
+    year_day_in some k l is =
         let e = a + k in
         let allowed = number_let_in q e is in
         let place = year_day_is e in
@@ -266,25 +261,6 @@ module _ (q : EffectiveRule) (a : ℕ) where
         ap (λ z. contains_wide q.year_days.front z || contains_wide q.year_days.back (len - k)) (sym day)
         ∙ ap (λ z. contains_wide q.year_days.front (year_day_of e) || contains_wide q.year_days.back z) (sym back)
         ∙ listed_there (lists_none_wide q.year_days) some allowed
-      where
-        listed_there : (b : Bool) {c : Bool} → b ≡ false → (b || c) ≡ true → c ≡ true
-        listed_there b h o = grind arith
-
-    in_year : len ≤ 366 → (b : Bool) → lists_none_wide q.year_days ≡ b
-        → count (a + len) is_open ≤ cond b 366 (count 367 (contains_wide q.year_days.front) + count 367 (contains_wide q.year_days.back))
-    in_year short true none = let most = at_most len in omega (arith, most, short)
-    in_year short false some =
-        let front = contains_wide q.year_days.front in
-        let back = contains_wide q.year_days.back in
-        let fewer = count_fewer len (λ k. lets_date q (a + k)) (λ k. front (k + 1) || back (len - k)) (λ k l is. year_day_in k l some is) in
-        omega (
-          arith,
-          from_first len,
-          fewer,
-          listed_most front back len,
-          count_mono (len + 1) 367 front (omega (arith, short)),
-          count_mono (len + 1) 367 back (omega (arith, short)),
-        )
 
   -- without BYYEARDAY, in each week at most as many as the weekdays allow
   module _ (absent : lists_none_wide q.year_days ≡ true) where
@@ -343,7 +319,8 @@ open_days q x len Monthly e long end short =
     let here = λ (k : ℕ) (l : k < len). (let day : (a + k) * 86_400 / 86_400 ≡ a + k = omega arith in
     sym (ap month_number day) ∙ period_at Monthly w x (a + k) long (omega arith) (omega (arith, l, end))) in
     among q a len 5 (listed_in_month q.month_days) (omega (arith, short))
-    (in_month q a x len begin (omega (arith, end, next)) here short (lists_none q.month_days) refl) (lists_none_wide q.year_days) refl
+    (listed_days q a (contains q.month_days.front) (contains q.month_days.back) short (lists_none q.month_days)
+    (month_day_in q a x len begin (omega (arith, end, next)) here)) (lists_none_wide q.year_days) refl
 open_days q x len Yearly e long end short =
     let w = monday_zero q.week_start in
     let a = first_day Yearly w x in
@@ -352,7 +329,8 @@ open_days q x len Yearly e long end short =
     let here = λ (k : ℕ) (l : k < len). (let day : (a + k) * 86_400 / 86_400 ≡ a + k = omega arith in
     sym (ap year_of day) ∙ period_at Yearly w x (a + k) long (omega arith) (omega (arith, l, end))) in
     among q a len 53 (listed_in_year q.year_days) (omega (arith, short))
-    (in_year q a x len begin (omega (arith, end, next)) here short (lists_none_wide q.year_days) refl) (lists_none_wide q.year_days) refl
+    (listed_days q a (contains_wide q.year_days.front) (contains_wide q.year_days.back) short (lists_none_wide q.year_days)
+    (year_day_in q a x len begin (omega (arith, end, next)) here)) (lists_none_wide q.year_days) refl
 open_days q x len f e long end short = grind arith
 
 -- the times of a day

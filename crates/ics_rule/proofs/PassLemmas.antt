@@ -1,6 +1,6 @@
 -- Steps over periods that hold nothing.
 use Rattle.std.proofs.Common.{◌≡◌, ℕ, ◌+◌, ◌-◌, ◌*◌, ◌/◌, ◌%◌, ◌<◌, ◌≤◌, inl, inr, Bool, true, false, ◌||◌, ◌&&◌, ◌==◌, max, refl, sym, ap, ◌∙◌, arith}
-use Rattle.std.proofs.lemmas.Bool.{and_right, cases_lt}
+use Rattle.std.proofs.lemmas.Bool.{cases_lt}
 use Rattle.jiff_core.specs.Weekday.{monday_zero}
 use Rattle.ics_fields.specs.Sets.{contains, IsLeastFrom}
 use Rattle.ics_period.specs.declared.effective_rule.EffectiveRule.{EffectiveRule}
@@ -50,13 +50,13 @@ module _ (q : EffectiveRule) (hours minutes seconds : ℕ)
       lets_clock q m ≡ false
   second_none n none m l u = sym (clock_is m) ∙ none (m % 86_400) (omega (arith, l, u))
 
--- no local is let in on a day that is not, nor at a time that is not
+-- no local is let in on a day that is not
 pub none_on_days : (q : EffectiveRule) (n day : ℕ) → ((e : ℕ) → n / 86_400 ≤ e → e < day → lets_date q e ≡ false) → NoneLetIn q n (max n (day * 86_400))
 none_on_days q n day none m l u = ap (λ x. x && lets_clock q m) (none (m / 86_400) (omega (arith, l)) (omega (arith, l, u)))
 
-pub none_on_clock : (q : EffectiveRule) (n from before : ℕ) → NoneLetIn q n from → ((m : ℕ) → from ≤ m → m < before → lets_clock q m ≡ false) →
-    NoneLetIn q n before
-none_on_clock q n from before days none m l u = elim (cases_lt m from) [
-  | inl less ↦ days m l less
-  | inr more ↦ and_right (lets_date q (m / 86_400)) (lets_clock q m) (none m more u)
+-- none before one, and none from there on
+pub none_on : (q : EffectiveRule) {n from before : ℕ} → NoneLetIn q n from → NoneLetIn q from before → NoneLetIn q n before
+none_on q {from = from} early late m l u = elim (cases_lt m from) [
+  | inl less ↦ early m l less
+  | inr more ↦ late m more u
 ]

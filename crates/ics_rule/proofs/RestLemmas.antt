@@ -39,7 +39,7 @@ module _ (q : EffectiveRule) (first : ℕ) where
       omega (arith, whole, same)
 
   -- and on other days none is
-  days_none : {from before : ℕ} → from ≤ before → ((e : ℕ) → from ≤ e → e < before → lets_date q e ≡ false)
+  pub days_none : {from before : ℕ} → from ≤ before → ((e : ℕ) → from ≤ e → e < before → lets_date q e ≡ false)
       → count (before * d) (is_open_period q first) ≡ count (from * d) (is_open_period q first)
   days_none {from = from} {before = before} order none =
       count_flat (from * d) (before * d) (is_open_period q first) (mul-le-mul_right d order)

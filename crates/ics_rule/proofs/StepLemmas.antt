@@ -1,10 +1,11 @@
 -- Steps by the interval.
-use Rattle.std.proofs.Common.{◌≡◌, ℕ, ◌+◌, ◌-◌, ◌*◌, ◌/◌, ◌%◌, ◌<◌, ◌≤◌, true, false, arith}
+use Rattle.std.proofs.Common.{◌≡◌, ℕ, zero, suc, ◌+◌, ◌-◌, ◌*◌, ◌/◌, ◌%◌, ◌<◌, ◌≤◌, ◌==◌, true, false, cond, arith}
 use Rattle.std.proofs.lemmas.Bool.Decides.{nat_tests}
 use Rattle.std.proofs.lemmas.Nat.{div-mul-add, mod-mul-add, div-add-mod', le-div}
 use Rattle.std.proofs.Math.Nat.{mul-le-mul_right, mod-lt}
 use Rattle.ics_fields.specs.Sets.{IsLeastFrom}
 use Rattle.ics_period.specs.Candidates.{is_stepped}
+use Rattle.ics_period.specs.Ranks.{count}
 
 pub stepped_parts : (first i p : ℕ) → is_stepped first i p ≡ true → (first ≤ p) × ((p - first) % i ≡ 0)
 stepped_parts first i p h = grind (arith, nat_tests)
@@ -35,3 +36,16 @@ module _ (i : ℕ) (some : 1 ≤ i) where
   pub none_between : (first p m : ℕ) → is_stepped first i p ≡ true → p < m → m < p + i → is_stepped first i m ≡ false
   none_between first p m h l u =
       grind (arith, nat_tests, div-add-mod', mod-mul-add ((p - first) / i) i (m - p), stepped_parts)
+
+  ceil_at : (d k r : ℕ) → d + (i - 1) ≡ k * i + r → r < i → ceil d ≡ k
+  ceil_at d k r e l = rw e (div-mul-add k i r l)
+
+  ceil_on : (d e : ℕ) → e ≡ suc d → ceil e ≡ ceil d + cond (d % i == 0) 1 0
+  ceil_on d e s =
+      grind (arith, nat_tests, div-add-mod' d i, mod-lt d some, ceil_at d (d / i) (i - 1), ceil_at d (d / i + 1) (d % i - 1), ceil_at e (d / i + 1) (d % i))
+
+  -- how many steps are before a number
+  pub count_steps : (first n : ℕ) → count n (is_stepped first i) ≡ ceil (n - first)
+  unfolding count
+  count_steps first zero = grind (arith, ceil_low)
+  count_steps first (suc n) = grind (arith, nat_tests, count_steps first n, ceil_on (n - first) (suc n - first))

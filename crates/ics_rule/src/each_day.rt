@@ -5,7 +5,7 @@ ghost use Rattle.ics_period.specs.Ranks.{count};
 ghost use Rattle.ics_rule.specs.Inner.Rounds.{seconds_of};
 ghost use Rattle.ics_rule.specs.Inner.OpenPeriods.{per_day, timely_on, is_open_period, HasRests};
 
-use crate::open_periods::{A_SHORT_MONTH, steps_let_in};
+use crate::open_periods::{A_SHORT_MONTH, lets_all_times, steps_let_in};
 use crate::pass::days_out_near;
 use crate::rounds::seconds_of;
 use crate::search::Search;
@@ -31,7 +31,7 @@ pub(crate) fn lets_few(search: &Search<'_>, from: u64) -> bool
         return parts.interval > 1 && lists_days(parts);
     }
     let mut steps = 0;
-    if parts.interval as usize > RESTS {
+    if parts.interval as usize > RESTS && !lets_all_times(parts) {
         steps = 86_400 / unit / parts.interval as u64;
     }
     let mut days = 0;

@@ -10,7 +10,7 @@ ghost use Rattle.ics_fields.specs.Days.{days_before_year};
 use crate::cursor::Cursor;
 use crate::each_day::{lets_few, open_of_each};
 use crate::never::size_of_open;
-use crate::pass::days_of_closed_month;
+use crate::pass::{days_of_closed_month, next_open_day};
 use crate::rounds::{calendar_round, seconds_of};
 use crate::search::Search;
 use crate::walk::next_step;
@@ -29,6 +29,26 @@ fn lets_own(parts: &EffectiveRule, n: u64) -> bool
         && (skips_seconds(frequency) | lets(parts.seconds, (n % 60) as u8))
 }
 
+/// Whether no part restricts the hour, minute and second of a period, as far as the period has them.
+pub(crate) fn lets_all_times(parts: &EffectiveRule) -> bool
+    ensures { result ≡ true → (n : ℕ) → lets_own parts.now.frequency parts.now n ≡ true }
+{
+    let frequency = parts.frequency;
+    (skips_hours(frequency) | parts.hours.is_empty())
+        && (skips_minutes(frequency) | parts.minutes.is_empty())
+        && (skips_seconds(frequency) | parts.seconds.is_empty())
+}
+
+/// How many steps of an interval, from the first on, are before a number.
+fn steps_before(first: u64, interval: u32, number: u64) -> u64
+    requires interval { 1 ≤ interval }
+    requires number { number < 2 ^ 40 }
+    ensures { result ≡ count number (is_stepped first interval) }
+{
+    let interval = interval as u64;
+    (number.saturating_sub(first) + (interval - 1)) / interval
+}
+
 /// How many steps from one period on and before another have an hour, minute and second that are allowed, whatever their days are.
 pub(crate) fn steps_let_in(search: &Search<'_>, from: u64, before: u64) -> u64
     requires order { from ≤ before }
@@ -37,6 +57,10 @@ pub(crate) fn steps_let_in(search: &Search<'_>, from: u64, before: u64) -> u64
     ensures { result + count from (is_timely search.now.parts.now search.now.first) ≡ count before (is_timely search.now.parts.now search.now.first) }
 {
     let parts = search.parts;
+    if lets_all_times(parts) {
+        return steps_before(search.first, parts.interval, before)
+            - steps_before(search.first, parts.interval, from);
+    }
     let unit = seconds_of(parts.frequency);
     let mut total = 0;
     let mut number = next_step(search.first, parts.interval, from);
@@ -107,7 +131,7 @@ fn open_of_rests(search: &Search<'_>, from: u64, before: u64) -> u64
     total
 }
 
-/// How many periods of whole days are allowed, by a look at each day that is allowed, if they are few.
+/// How many periods of whole days are allowed, by a look at each day that is allowed, if they are few. Times are not tested if there is none.
 fn open_of_days(search: &Search<'_>, from: u64, before: u64) -> u64
     requires fine { 0 < seconds_of search.now.parts.now.frequency }
     requires unit { seconds_of search.now.parts.now.frequency ≤ 86400 }
@@ -117,7 +141,10 @@ fn open_of_days(search: &Search<'_>, from: u64, before: u64) -> u64
     ensures { result + count (from * per_day search.now.parts.now.frequency) (is_open_period search.now.parts.now search.now.first)
         ≡ count (before * per_day search.now.parts.now.frequency) (is_open_period search.now.parts.now search.now.first) }
 {
-    if lets_few(search, from) {
+    let end = before as u32;
+    if !lets_all_times(search.parts) && next_open_day(search.parts, from as u32, end, true) >= end {
+        0
+    } else if lets_few(search, from) {
         open_of_each(search, from, before)
     } else {
         open_of_rests(search, from, before)

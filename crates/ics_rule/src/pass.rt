@@ -74,7 +74,7 @@ const CALENDAR_ROUND: u32 = 146_097;
 /// of the calendar without such a day.
 fn next_near_day(parts: &EffectiveRule, day: u32, end: u32) -> u32
     requires day { day ≤ end }
-    requires end { end ≤ days_before_year 9_801 }
+    requires end { end ≤ days_before_year 9_801 + 1 }
     ensures low { day ≤ result }
     ensures high { result ≤ end + 384 }
     ensures none { (e : ℕ) → day ≤ e → e < result → lets_date parts.now e ≡ false }
@@ -101,9 +101,9 @@ const A_SHORT_PASS: u32 = 64;
 
 /// The first day from one on that a rule may allow; with `by_days` it allows that day. The search ends at `end`, and after a round of the
 /// calendar without such a day.
-fn next_open_day(parts: &EffectiveRule, day: u32, end: u32, by_days: bool) -> u32
+pub(crate) fn next_open_day(parts: &EffectiveRule, day: u32, end: u32, by_days: bool) -> u32
     requires day { day ≤ end }
-    requires end { end ≤ days_before_year 9_801 }
+    requires end { end ≤ days_before_year 9_801 + 1 }
     ensures low { day ≤ result }
     ensures high { result ≤ end + 384 }
     ensures none { (e : ℕ) → day ≤ e → e < result → lets_date parts.now e ≡ false }
@@ -147,23 +147,6 @@ pub(crate) fn next_open_second(parts: &EffectiveRule, n: u64) -> u64
     }
 }
 
-/// The first local from one on that a rule may allow; with `by_days` it allows that day. The search ends at `end`.
-pub(crate) fn next_open(parts: &EffectiveRule, n: u64, end: u64, by_days: bool) -> u64
-    requires local { n < end }
-    requires end { end ≤ rules_end }
-    ensures low { n ≤ result }
-    ensures high { result < calendar_end }
-    ensures none { NoneLetIn parts.now n result }
-{
-    let day = next_open_day(parts, (n / 86_400) as u32, (end / 86_400) as u32, by_days);
-    let n = n.max(day as u64 * 86_400);
-    if skips_hours(parts.frequency) {
-        n
-    } else {
-        next_open_second(parts, n)
-    }
-}
-
 /// The first local from one on whose time a rule allows, or the end of its day; if FREQ is DAILY or coarser, that one.
 fn next_time(parts: &EffectiveRule, n: u64) -> u64
     requires { n < calendar_end }
@@ -176,6 +159,18 @@ fn next_time(parts: &EffectiveRule, n: u64) -> u64
     } else {
         next_open_second(parts, n)
     }
+}
+
+/// The first local from one on that a rule may allow; with `by_days` it allows that day. The search ends at `end`.
+pub(crate) fn next_open(parts: &EffectiveRule, n: u64, end: u64, by_days: bool) -> u64
+    requires local { n < end }
+    requires end { end ≤ rules_end }
+    ensures low { n ≤ result }
+    ensures high { result < calendar_end }
+    ensures none { NoneLetIn parts.now n result }
+{
+    let day = next_open_day(parts, (n / 86_400) as u32, (end / 86_400) as u32, by_days);
+    next_time(parts, n.max(day as u64 * 86_400))
 }
 
 /// The first local from one on whose day a rule allows and, if FREQ is finer than DAILY, whose time too. The search ends at `end`, and after a

@@ -1,9 +1,22 @@
 use Rattle.std.proofs.Common.{◌≡◌, ◌∙◌, ◌*◌, true, false, sym, ap, arith}
+use Rattle.ics_period.specs.Candidates.{is_stepped}
+use Rattle.ics_period.proofs.Counts.{count_mono, count_between}
 use Rattle.ics_rule.specs.Inner.Rounds.{seconds_of}
-use Rattle.ics_rule.specs.Inner.OpenPeriods.{lets_own}
+use Rattle.ics_rule.specs.Inner.OpenPeriods.{lets_own, is_timely}
 use Rattle.ics_rule.proofs.OpenLemmas.{walk_first, walk_small, walk_on, walk_done}
 use Rattle.ics_rule.proofs.open_periods.steps_let_in.Goals as goal
 use Rattle.ics_rule.proofs.open_periods.steps_let_in.Goals.{then-lets_own, else-lets_own}
+
+pub overflow_sub-result : goal.overflow_sub-result
+overflow_sub-result c = grind (arith, count_mono)
+
+pub returns-then-lets_all_times : goal.returns-then-lets_all_times
+returns-then-lets_all_times c =
+    let steps = is_stepped c.args.search.now.first c.args.search.now.parts.now.interval in
+    let some = count_mono c.args.from c.args.before steps c.requires.order in
+    count_between _ steps (is_timely c.args.search.now.parts.now c.args.search.now.first) c.requires.order
+    (λ m l h. let all = c.lets_all_times.ensures c.if-lets_all_times.true (m * seconds_of c.args.search.now.parts.now.frequency) in grind (arith, all))
+    (omega (arith, some, c.steps_before.ensures, c.steps_before-then-lets_all_times.ensures))
 
 pub loop-number-init : goal.loop-number-init
 loop-number-init c = walk_first c.args.search.now.interval c.requires.order c.next_step-number.ensures
