@@ -1,9 +1,9 @@
 -- Stretches of the clock of a zone file.
 use Rattle.std.proofs.Common.{◌≡◌, ℕ, zero, suc, ◌+◌, ◌-◌, ◌<◌, ◌≤◌, ◌==◌, true, false, List, length, get_or, map, ℤ, ◌-ℤ◌, ◌+ℤ◌, ◌≤ℤ◌, ◌<ℤ◌}
-use Rattle.std.proofs.Common.{int_le, Some, None, sym, ap, ◌∙◌, refl, arith}
+use Rattle.std.proofs.Common.{int_le, Some, None, inl, inr, sym, ap, ◌∙◌, refl, arith}
 use Rattle.std.proofs.lemmas.Bool.{and_parts}
 use Rattle.std.proofs.lemmas.Bool.Decides.{nat_tests}
-use Rattle.std.proofs.lemmas.Int.{int_min_is, ints}
+use Rattle.std.proofs.lemmas.Int.{int_max_is, int_min_is, ints}
 use Rattle.std.proofs.lemmas.List.{get_or_default, length-map}
 use Rattle.std.proofs.lemmas.List.Sums.{prefix_len_is}
 use Rattle.std.specs.List.{prefix_len}
@@ -18,8 +18,8 @@ use Rattle.jiff_tz.specs.declared.posix.TimeZone.{TimeZone}
 use Rattle.jiff_tz.specs.declared.tzif.Tzif.{Tzif}
 use Rattle.jiff_tz.specs.declared.tzif.transition.Transition.{Transition}
 use Rattle.ics_zone.proofs.BoundsLemmas.{row_read}
-use Rattle.ics_zone.proofs.Cases.{false_int_lt, int_le_true}
-use Rattle.ics_zone.specs.Inner.FileStretches.{IsStretchAfter}
+use Rattle.ics_zone.proofs.Cases.{below_or_at, false_int_lt, int_le_true, less_or_not_z, true_int_lt}
+use Rattle.ics_zone.specs.Inner.FileStretches.{left_at, reading_past, IsLastOf, IsStretchAfter}
 use Rattle.ics_zone.specs.Stretches.{IsStretch}
 use Rattle.ics_zone.specs.ZoneFiles.{row_at, offset_after, count_at, civil_count_at, is_inside, file_offset, file_reading, file_moment}
 use Rattle.ics_zone.specs.ZoneSaid.{ByRule, jiff_said, said_moment, said_offset}
@@ -89,6 +89,46 @@ module _ (z : Tzif) where
       let some : (suc k == 0) ≡ false = grind (arith, nat_tests) in
       rw some (false_int_lt x _ (past (omega arith)))
 
+  -- the last of so many gaps and folds ends before the next begins
+  follows : (k : ℕ) → k < length rows - 1 → civil_end (get_or rows k no_row) ≤ℤ civil_start (get_or rows (k + 1) no_row)
+  follows k l = (row_follows_at rows (length rows - 1) k (and_parts _ _ z.ordered).1 l).1
+
+  ends_before : (count : ℕ) → 0 < count → count < length rows → civil_end (row_at file (count - 1)) ≤ℤ civil_start (row_at file count)
+  ends_before count some l =
+      let on : count - 1 + 1 ≡ count = omega (arith, some) in
+      let last : count - 1 < length rows = omega (arith, l) in
+      rw (row_is (count - 1) last, row_is count l) (rw on at (follows (count - 1) (omega (arith, some, l))))
+
+  -- a local in the last of so many is read by the offset before it
+  inside_read : (count : ℕ) (x : ℤ) → 0 < count → count ≤ length rows → civil_start (row_at file (count - 1)) ≤ℤ x
+      → x <ℤ civil_end (row_at file (count - 1)) → file_reading file x ≡ (row_at file (count - 1)).before
+  unfolding file_reading
+  inside_read count x some inside low high =
+      let more : (count == 0) ≡ false = grind (arith, nat_tests) in
+      let counted = civil_counted count x inside (λ l. low) (λ l. omega (arith, ints, high, ends_before count some l)) in
+      rw (counted, more, true_int_lt x _ high) refl
+
+  -- a local past all of them is read as they say, up to where the next gap begins or the next fold ends
+  past_read : (k : ℕ) (x : ℤ) → k ≤ length rows → (0 < k → civil_end (row_at file (k - 1)) ≤ℤ x)
+      → (k < length rows → x <ℤ left_at (row_at file k)) → file_reading file x ≡ reading_past file k x
+  unfolding file_reading
+  past_read k x inside past left = elim (below_or_at k (length rows) inside) [
+    | inl l ↦ (elim (less_or_not_z x (civil_start (row_at file k))) [
+      | inl less ↦ unread (λ m. less)
+      | inr more ↦ (
+          let other : (k == length rows) ≡ false = grind (arith, nat_tests) in
+          let back : k + 1 - 1 ≡ k = omega arith in
+          let read = inside_read (k + 1) x (omega arith) (omega arith) (rw back more) (rw back (omega (arith, ints, left l, int_max_is))) in
+          rw (read, back, other) (before_is k l))
+    ])
+    | inr all ↦ unread (λ m. absurd (omega (arith, all, m)))
+  ]
+    where
+      unread : (k < length rows → x <ℤ civil_start (row_at file k)) → file_reading file x ≡ reading_past file k x
+      unread before =
+          let counted = civil_counted k x inside (λ l. omega (arith, ints, past l, start_le_end (row_at file (k - 1)))) before in
+          rw (counted, outside k x past) refl
+
   -- the same offsets up to the same end
   pub record HasOffsets (s t : Stretch) : Type 0 where
     pub to : t.to ≡ s.to
@@ -103,25 +143,53 @@ module _ (z : Tzif) where
 
   pub stretch_past : (k : ℕ) {s t : Stretch} → k ≤ length rows → IsStretchAfter file k s → HasOffsets s t → IsPast k s t.from
       → IsStretch (file_offset file) (file_moment file) t
-  unfolding file_offset file_reading
+  unfolding file_offset
   stretch_past k {s = s} {t = t} inside h same past = record {
     moments = λ x low high.
-        let out = outside k x (λ l. omega (arith, ints, past.end l, low)) in
-        let count = civil_counted k x inside
-        (λ l. omega (arith, ints, past.end l, low, start_le_end (row_at file (k - 1))))
-        (λ l. omega (arith, ints, high, same.to, h.ends l)) in
-        rw (count, out, same.offset) (h.stretch.moments x (omega (arith, ints, past.on, low)) (omega (arith, ints, same.to, high)));
+        let read = past_read k x inside (λ l. omega (arith, ints, past.end l, low)) (λ l. omega (arith, ints, high, same.to, h.ends l)) in
+        rw (read, same.offset) (h.stretch.moments x (omega (arith, ints, past.on, low)) (omega (arith, ints, same.to, high)));
     offsets = λ x low high.
         let count = second_counted k (x -ℤ s.offset) inside
         (λ l. omega (arith, ints, past.row l, low))
-        (λ l. omega (arith, ints, high, same.to, h.ends l, h.before l, int_min_is)) in
+        (λ l. omega (arith, ints, high, same.to, h.ends l, h.before l)) in
         rw (same.offset, same.shown, count) (h.stretch.offsets x (omega (arith, ints, past.on, low)) (omega (arith, ints, same.to, high)));
     short = rw same.offset h.stretch.short;
     shown_short = rw same.shown h.stretch.shown_short;
   }
 
+  -- locals in a gap, which mean instants at which the clock shows locals of a stretch after it
+  pub record IsGapOf (row : TransitionText) (after s : Stretch) : Type 0 where
+    pub from : left_at row ≤ℤ s.from
+    pub to : s.to ≤ℤ civil_end row
+    pub offset : s.offset ≡ row.before
+    pub shown : s.shown ≡ after.shown
+    pub on : (after.from -ℤ after.offset) ≤ℤ (s.from -ℤ s.offset)
+    pub end : (s.to -ℤ s.offset) ≤ℤ (after.to -ℤ after.offset)
+    pub short : IsWithin 93_599 s.offset
+
+  pub gap_stretch : (count : ℕ) (row : TransitionText) {after s : Stretch} → IsLastOf file count row → IsStretchAfter file count after
+      → IsGapOf row after s → IsStretch (file_offset file) (file_moment file) s
+  unfolding file_offset
+  gap_stretch count row {after = after} {s = s} last h gap =
+      let begins : row.second ≤ℤ (s.from -ℤ s.offset) = omega (arith, ints, gap.from, gap.offset) in
+      record {
+        moments = λ x low high.
+            let read = inside_read count x last.some last.within (rw last.is (omega (arith, ints, low, gap.from, int_min_is)))
+            (rw last.is (omega (arith, ints, high, gap.to))) in
+            rw (read, last.is, gap.offset) refl;
+        offsets = λ x low high.
+            let counted = second_counted count (x -ℤ s.offset) last.within (λ l. rw last.is (omega (arith, ints, low, begins)))
+            (λ l. omega (arith, ints, high, gap.end, h.ends l, h.before l)) in
+            let there = h.stretch.offsets (x -ℤ s.offset +ℤ after.offset) (omega (arith, ints, low, gap.on)) (omega (arith, ints, high, gap.end)) in
+            let same : (x -ℤ s.offset +ℤ after.offset) -ℤ after.offset ≡ x -ℤ s.offset = omega (arith, ints) in
+            let told = rw same at there in
+            rw (counted, gap.shown) told;
+        short = gap.short;
+        shown_short = rw gap.shown h.stretch.shown_short;
+      }
+
   -- before a transition there is one offset
-  pub before_next : (k : ℕ) {s : Stretch} → k < length rows → s.to ≡ civil_start (row_at file k)
+  pub before_next : (k : ℕ) {s : Stretch} → k < length rows → s.to ≡ left_at (row_at file k)
       → s.offset ≡ (row_at file k).before → s.shown ≡ (row_at file k).before → IsWithin 93_599 s.offset → IsStretchAfter file k s
   before_next k {s = s} l to offset shown short =
       let more : (k == length rows) ≡ false = grind (arith, nat_tests) in

@@ -2,8 +2,8 @@ use Rattle.std.proofs.Common.{◌≡◌, ap, arith, length, of_z, option_map, ru
 use Rattle.std.proofs.lemmas.Int.{to_z-of_z}
 use Rattle.jiff_tz.specs.PosixText.{tz_view}
 use Rattle.jiff_tz.specs.Tzif.{tzif_view}
-use Rattle.jiff_tz.specs.TzifText.{civil_start}
 use Rattle.ics_zone.proofs.FileStretchLemmas.{after_last, before_next, by_rule, row_count, row_there}
+use Rattle.ics_zone.specs.Inner.FileStretches.{left_at}
 use Rattle.ics_zone.proofs.stretch.Stretch.before_row.Goals as goal
 
 pub returns-then-count-rows : goal.returns-then-count-rows
@@ -15,7 +15,7 @@ returns-then-count-rows c =
     let offset : to_z w64 (of_z w64 c.from-offset.result) ≡ row.before.seconds =
     to_z-of_z w64 c.from-offset.result (search rules) ∙ c.from-offset.ensures ∙ to_z-of_z w32 row.before.seconds (search rules) in
     before_next z c.args.count (omega (arith, c.if-count-rows.true, row_count z read.result.now read.ensures))
-    (to_z-of_z w64 c.civil_start.result (search rules) ∙ c.civil_start.ensures ∙ ap civil_start (sym there))
+    (to_z-of_z w64 c.left_at.result (search rules) ∙ c.left_at.ensures ∙ ap left_at (sym there))
     (offset ∙ ap (λ row. row.before) (sym there)) (offset ∙ ap (λ row. row.before) (sym there)) (rw offset row.before.in_range)
 
 pub returns-in-Some : goal.returns-in-Some

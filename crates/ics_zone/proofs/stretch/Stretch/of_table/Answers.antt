@@ -16,8 +16,22 @@ returns-then-count-eq0 c =
       row = λ l. absurd (omega (arith, c.if-count-eq0.true, l));
     })
 
-pub returns-else-count-eq0 : goal.returns-else-count-eq0
-returns-else-count-eq0 c =
+pub returns-then-local-civil_end : goal.returns-then-local-civil_end
+returns-then-local-civil_end c =
+    let z = c.args.table.now in
+    let read = c.transitions-rows in
+    let count = c.partition_point-count in
+    c.in_gap.ensures z count.result
+    (record {
+      some = omega (arith, c.if-count-eq0.false);
+      within = omega (arith, count.ensures.bound, row_count z read.result.now read.ensures);
+      is = row_there z read.result.now (count.result - 1) c.index-rows-count.result read.ensures c.index-rows-count.is
+          (omega (arith, count.ensures.bound, c.if-count-eq0.false));
+    })
+    c.before_row-stretch.ensures
+
+pub returns-else-local-civil_end : goal.returns-else-local-civil_end
+returns-else-local-civil_end c =
     let z = c.args.table.now in
     let read = c.transitions-rows in
     let count = c.partition_point-count in
