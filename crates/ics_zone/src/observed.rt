@@ -232,9 +232,24 @@ impl Observed {
         self.onsets.len() > FEW
     }
 
-    /// Whether it has, and holds no spans about a local, given by its seconds.
+    /// Whether it holds no spans about a local, given by its seconds.
     pub fn is_slow_at(&self, seconds: i64) -> bool {
-        self.has_many() && is_moment(seconds) && self.held_moment(seconds).is_none()
+        is_moment(seconds) && self.held_moment(seconds).is_none()
+    }
+
+    /// The instants of locals, which are given by their seconds, each found by itself. Those that find no memory are left out.
+    pub(crate) fn each_answer(&self, locals: &[i64]) -> Vec<Answer>
+        ensures { AreAnswers self.now.said.items result.items }
+    {
+        let mut answers = Vec::new(*self.held.allocator());
+        for k in 0..locals.len() {
+            let seconds = locals[k];
+            if is_moment(seconds) {
+                let moment = self.instant_of(seconds);
+                answers.push(Answer { seconds, moment }).ok();
+            }
+        }
+        answers
     }
 
     /// The instants of locals, which are given by their seconds in order, if the onsets near them can be listed.
@@ -300,6 +315,17 @@ impl Observed {
         Ok(())
     }
 
+    /// Makes answers faster from an instant on and up to another and changes none: it holds spans from the first on, if a few reach far.
+    pub fn reach_through(&mut self, from: Moment, to: Moment)
+        ensures { self.new ≡ self.old }
+    {
+        let last = to.clamp(FIRST_HELD, LAST_HELD);
+        let first = from.clamp(FIRST_HELD, last);
+        if self.room == 0 {
+            self.hold_from(first, last, last);
+        }
+    }
+
     /// The offset at an instant, in seconds: TZOFFSETTO of the greatest onset that is not after it or, before all onsets, TZOFFSETFROM of the
     /// least.
     pub fn offset(&self, moment: Moment) -> i32
@@ -322,7 +348,14 @@ impl Observed {
         ensures means { IsMomentOf self.now.said.items (seconds_at local.day local.second) result }
         ensures value { result ≡ zone_moment self.now.said.items (seconds_at local.day local.second) }
     {
-        let seconds = seconds_of(local);
+        self.instant_of(seconds_of(local))
+    }
+
+    /// The same of a local that is given by its seconds.
+    fn instant_of(&self, seconds: i64) -> Moment
+        requires { IsMoment seconds }
+        ensures { IsMomentOf self.now.said.items seconds result }
+    {
         if self.told_about(seconds).is_some() {
             return self.moment_by_offsets(seconds);
         }

@@ -78,12 +78,30 @@ impl SharedObserved {
         }
     }
 
+    /// The same from an instant on and up to another, if a few spans reach far.
+    pub fn reach_through(&mut self, from: Moment, to: Moment)
+        ensures { self.new ≡ self.old }
+    {
+        if let Some(zone) = Rc::get_mut(&mut self.zone) {
+            zone.reach_through(from, to);
+        }
+    }
+
     /// Takes note of a local that will be asked for, if that is slow.
     pub fn note(&mut self, local: Local)
         ensures { self.new ≡ self.old }
     {
         let seconds = seconds_of(local);
-        if self.get().is_slow_at(seconds) {
+        if self.get().has_many() && self.get().is_slow_at(seconds) {
+            self.noted.push(seconds).ok();
+        }
+    }
+
+    /// Takes note of a local, given by its seconds, that will be asked for again and again, if that is slow. A zone of many observances knows it already.
+    pub fn note_again(&mut self, seconds: i64)
+        ensures { self.new ≡ self.old }
+    {
+        if !self.get().has_many() && self.get().is_slow_at(seconds) {
             self.noted.push(seconds).ok();
         }
     }
@@ -97,7 +115,11 @@ impl SharedObserved {
         }
         self.noted.sort_unstable();
         self.noted.dedup();
-        let answers = self.get().answers(&self.noted);
+        let answers = if self.get().has_many() {
+            self.get().answers(&self.noted)
+        } else {
+            self.get().each_answer(&self.noted)
+        };
         self.answers = answers;
         self.noted.clear();
     }

@@ -132,8 +132,18 @@ impl Zone {
         }
     }
 
-    /// Makes answers for the locals that were noted faster and changes none: the onsets near them are listed once for all. Those for which no memory
-    /// is found are answered as before.
+    /// Takes note of a local, given by its seconds, that will be asked for again and again. No answer changes.
+    pub fn note_again(&mut self, seconds: i64)
+        ensures { self.new ≡ self.old }
+    {
+        match &mut self.kind {
+            ZoneKind::ByObservances(observed) => observed.note_again(seconds),
+            ZoneKind::ByJiff(_) => {}
+        }
+    }
+
+    /// Makes answers for the locals that were noted faster and changes none: each is found once or, of many observances, the onsets near them are listed
+    /// once for all. Those for which no memory is found are answered as before.
     pub fn learn(&mut self)
         ensures { self.new ≡ self.old }
     {
@@ -153,6 +163,16 @@ impl Zone {
         match &mut self.kind {
             ZoneKind::ByObservances(observed) => observed.reach(to),
             ZoneKind::ByJiff(_) => Ok(()),
+        }
+    }
+
+    /// The same from an instant on and up to another, where a few spans reach far.
+    pub fn reach_through(&mut self, from: Moment, to: Moment)
+        ensures { self.new ≡ self.old }
+    {
+        match &mut self.kind {
+            ZoneKind::ByObservances(observed) => observed.reach_through(from, to),
+            ZoneKind::ByJiff(_) => {}
         }
     }
 

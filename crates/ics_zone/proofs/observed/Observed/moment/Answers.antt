@@ -1,51 +1,12 @@
-use Rattle.std.proofs.Common.{rules, inl, inr, sym, SFits, w64}
+use Rattle.std.proofs.Common.{rules, sym, SFits, w64}
 use Rattle.std.proofs.lemmas.Int.{to_z-of_z}
 use Rattle.ics_zone.specs.Moments.{IsMomentOf}
 use Rattle.ics_zone.proofs.MomentLemmas.{is_found}
 use Rattle.ics_zone.proofs.observed.Observed.moment.Goals as goal
 
-pub returns-then-is_some : goal.returns-then-is_some
-returns-then-is_some c =
-    let fits : SFits w64 c.seconds_of-seconds.result = search rules in
-    let is : IsMomentOf c.args.self.now.said.items c.seconds_of-seconds.result c.moment_by_offsets.result =
-    simp to_z-of_z at c.moment_by_offsets.ensures in
-    rw (to_z-of_z w64 c.moment_by_offsets.result (search rules), sym c.seconds_of-seconds.ensures)
-    (record { means = is; value = is_found c.args.self.now c.seconds_of-seconds.result _ is })
-
-pub returns-in-Some : goal.returns-in-Some
-returns-in-Some c =
-    let fits : SFits w64 c.seconds_of-seconds.result = search rules in
-    let is : IsMomentOf c.args.self.now.said.items c.seconds_of-seconds.result c.in-Some.moment =
-    inl (simp to_z-of_z at c.in-Some.ensures) in
-    rw (to_z-of_z w64 c.in-Some.moment (search rules), sym c.seconds_of-seconds.ensures)
-    (record { means = is; value = is_found c.args.self.now c.seconds_of-seconds.result _ is })
-
-pub returns-in-Some-held_moment : goal.returns-in-Some-held_moment
-returns-in-Some-held_moment c =
-    let fits : SFits w64 c.seconds_of-seconds.result = search rules in
-    let is : IsMomentOf c.args.self.now.said.items c.seconds_of-seconds.result c.in-Some-held_moment.moment = simp to_z-of_z at c.in-Some-held_moment.ensures in
-    rw (to_z-of_z w64 c.in-Some-held_moment.moment (search rules), sym c.seconds_of-seconds.ensures)
-    (record { means = is; value = is_found c.args.self.now c.seconds_of-seconds.result _ is })
-
-pub returns-in-Some-near_moment : goal.returns-in-Some-near_moment
-returns-in-Some-near_moment c =
-    let fits : SFits w64 c.seconds_of-seconds.result = search rules in
-    let is : IsMomentOf c.args.self.now.said.items c.seconds_of-seconds.result c.in-Some-near_moment.moment =
-    simp to_z-of_z at c.in-Some-near_moment.ensures in
-    rw (to_z-of_z w64 c.in-Some-near_moment.moment (search rules), sym c.seconds_of-seconds.ensures)
-    (record { means = is; value = is_found c.args.self.now c.seconds_of-seconds.result _ is })
-
-pub returns-in-Some-first_time : goal.returns-in-Some-first_time
-returns-in-Some-first_time c =
-    let fits : SFits w64 c.seconds_of-seconds.result = search rules in
-    let is : IsMomentOf c.args.self.now.said.items c.seconds_of-seconds.result c.in-Some-first_time.moment =
-    inl (simp to_z-of_z at c.in-Some-first_time.ensures) in
-    rw (to_z-of_z w64 c.in-Some-first_time.moment (search rules), sym c.seconds_of-seconds.ensures)
-    (record { means = is; value = is_found c.args.self.now c.seconds_of-seconds.result _ is })
-
-pub returns-in-None : goal.returns-in-None
-returns-in-None c =
-    let fits : SFits w64 c.seconds_of-seconds.result = search rules in
-    let is : IsMomentOf c.args.self.now.said.items c.seconds_of-seconds.result c.across_gap.result = inr (simp to_z-of_z at c.across_gap.ensures) in
-    rw (to_z-of_z w64 c.across_gap.result (search rules), sym c.seconds_of-seconds.ensures)
-    (record { means = is; value = is_found c.args.self.now c.seconds_of-seconds.result _ is })
+pub returns : goal.returns
+returns c =
+    let fits : SFits w64 c.seconds_of.result = search rules in
+    let is : IsMomentOf c.args.self.now.said.items c.seconds_of.result c.instant_of.result = simp to_z-of_z at c.instant_of.ensures in
+    rw (to_z-of_z w64 c.instant_of.result (search rules), sym c.seconds_of.ensures)
+    (record { means = is; value = is_found c.args.self.now c.seconds_of.result _ is })
