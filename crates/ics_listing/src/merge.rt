@@ -1,5 +1,5 @@
 //! The merge of feeds.
-ghost use Rattle.std.specs.Prelude.{◌≡◌, ◌<◌, ◌-◌, ◌^◌, true, false, All, IfOk, OnOk, length, map, min, sum_by};
+ghost use Rattle.std.specs.Prelude.{◌≡◌, ◌<◌, ◌-◌, ◌^◌, [], true, false, All, IfOk, OnOk, length, map, min, sum_by};
 ghost use Rattle.std.specs.List.{flat_map, AllByRecursion, AllByRecursion-prop};
 ghost use Rattle.std.specs.Option.{option_map};
 ghost use Rattle.ics_listing.specs.Entry.{entry_cmp, entry_of};
@@ -171,6 +171,20 @@ impl<'a, F: Feed<'a>> Merge<'a, F> {
         ensures { option_map entry_of result ≡ held_by (first_turn (map (λ l. turn_of l.unread l.head) self.now.leads.items) self.now.winners.items) }
     {
         self.leads.get(winner(&self.winners, 1))?.head
+    }
+}
+
+impl<'a, F: Holding + Drop> Merge<'a, F> {
+    /// Drops the feeds and what was given last, so that nothing is to come. It allocates nothing.
+    pub fn end(&mut self)
+        ensures coming { ⟦<Merge<'a, F> as Coming>⟧.coming self.new ≡ [] }
+        ensures sources { ⟦<Merge<'a, F> as Coming>⟧.sources self.new ≡ [] }
+        ensures holds { listed self.new.last (flat_map (λ l. listed l.head (F.holds l.feed)) self.new.leads.items) ≡ [] }
+        ensures looked { sum_by (λ l. F.looked l.feed) self.new.leads.items ≡ 0 }
+    {
+        self.leads.clear();
+        self.winners.clear();
+        self.last = None;
     }
 }
 
