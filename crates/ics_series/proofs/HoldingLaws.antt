@@ -122,15 +122,6 @@ lead-few head (Series s) =
 abbrev sources_in : {X : Type 0} → (X → Part) → List X → List Source
 sources_in part xs = flat_map (λ x. part_sources (part x)) xs
 
--- Each part has a source, so that parts without any are none, and nothing was looked at.
-some-source : (p : Part) (more : List Source) → part_sources p ++ more ≡ [] → ⊥
-some-source (Singles s) more e = absurd cc
-some-source (Series s) more e = absurd cc
-
-pub none-looked : {X : Type 0} (part : X → Part) (xs : List X) → sources_in part xs ≡ [] → sum_by (λ x. part_looked (part x)) xs ≡ 0
-none-looked part [] e = refl
-none-looked part (x ∷ xs) e = absurd (some-source (part x) (sources_in part xs) e)
-
 -- Leads, each with what is drawn of its part and the part.
 module _ {X : Type 0} (head : X → Option Occurrence) (part : X → Part) where
   abbrev held_by : List X → List Entry

@@ -8,6 +8,7 @@ pub mod OccursLemmas
 pub mod OnDayLemmas
 pub mod OverrideLemmas
 pub mod RecurringLemmas
+pub mod ReplacedLemmas
 pub mod SinglesLemmas
 pub mod SourceLemmas
 pub mod SpanLemmas

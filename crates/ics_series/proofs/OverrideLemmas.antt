@@ -20,7 +20,7 @@ use Rattle.ics_listing.proofs.ListingLemmas.{any-in, in-any, rises-on, rises-sor
 use Rattle.ics_series.proofs.OccursLemmas.{override-subject}
 
 -- The versions that count are sorted by subject.
-abbrev label_subject_cmp : Label → Label → Ordering
+abbrev pub label_subject_cmp : Label → Label → Ordering
 label_subject_cmp = on (λ l. l.subject) subject_cmp
 
 pub chosen-rises : {files : List FileSaid} {display : Clock} {vs : List Version} → AreChosen files display vs → Rises label_subject_cmp (map seen vs)
@@ -36,7 +36,7 @@ overrides-sorted {vs = vs} os h e =
     (rises-filter label_subject_cmp is_override (map seen vs) (chosen-rises h))))
 
 -- an instance of a UID
-abbrev instance : List ℕ → ℤ → SubjectSeen
+abbrev pub instance : List ℕ → ℤ → SubjectSeen
 instance uid t = record { uid = uid; recurrence = Some t }
 
 -- an instance is named where an override names it

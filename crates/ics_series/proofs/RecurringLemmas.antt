@@ -1,5 +1,5 @@
 -- What a master gives that recurs: of the occurrences to come those of its event.
-use Rattle.std.proofs.Common.{◌≡◌, ◌<ℤ◌, ℤ, List, map, length, Option, Some, None, Bool, true, false, refl, sym, ◌∙◌, ap, subst, arith, ◌≤ℤ◌, ◌||◌, ◌&&◌}
+use Rattle.std.proofs.Common.{◌≡◌, ◌<ℤ◌, ℕ, ℤ, List, map, length, Option, Some, None, Bool, true, false, refl, sym, ◌∙◌, ap, subst, arith, ◌≤ℤ◌, ◌||◌, ◌&&◌}
 use Rattle.std.proofs.Common.{◌==◌, int_le, is_none, is_some, option_map, [], ◌∷◌, inl, inr, ⊎_elim, is_gt}
 use Rattle.std.proofs.lemmas.Int.{ints}
 use Rattle.ics_file.specs.File.{FileSaid}
@@ -14,10 +14,10 @@ use Rattle.ics_listing.specs.FileClocks.{Clock, Clocks}
 use Rattle.ics_starts.specs.Clocks.{instant}
 use Rattle.ics_listing.specs.Entry.{Entry, Rank, entry_cmp}
 use Rattle.ics_listing.specs.Listing.{IsIn, IsListing}
-use Rattle.ics_series.specs.Inner.Masters.{IsBehind, IsOfVersion, IsSince, Recurs}
+use Rattle.ics_series.specs.Inner.Masters.{AreFrom, IsBehind, IsOfVersion, IsSince, Recurs, IsUnreplaced}
 use Rattle.ics_listing.specs.After.{is_after}
 use Rattle.ics_starts.specs.Instances.{IsOf}
-use Rattle.ics_series.specs.Overridden.{is_kept}
+use Rattle.ics_series.specs.Chosen.{IsOverridden}
 use Rattle.ics_series.specs.PlacedEvents.{Placed, clocks_at}
 use Rattle.ics_starts.specs.SeriesStarts.{given_of, IsSeriesMet}
 use Rattle.ics_starts.specs.SingleEvents.{is_single}
@@ -34,7 +34,8 @@ use Rattle.ics_series.proofs.VersionLemmas.{in-map, placed-event, IsGiven}
 use Rattle.ics_starts.proofs.StartSourceLemmas.{gives-value, same-given}
 use Rattle.ics_listing.proofs.StartOrderLemmas.{rdate-time}
 use Rattle.ics_starts.proofs.InstantLemmas.{late}
-use Rattle.ics_series.proofs.ToComeLemmas.{to-come}
+use Rattle.ics_series.proofs.ReplacedLemmas.{AreReplaced}
+use Rattle.ics_series.proofs.ToComeLemmas.{to-come, unreplaced-kept}
 use Rattle.ics_listing.specs.WindowBounds.{occurrence_first}
 use Rattle.std.proofs.lemmas.Cmp.{tied_itself}
 use Rattle.ics_event.specs.Event.{Rdate}
@@ -145,8 +146,8 @@ module _ {files : List FileSaid} {display : Clock} {vs : List Version} {label : 
 
   -- what it gives is to come where no override stands for it
   pub version-come : (w : Window) (after : Option Rank) (o : Entry) → IsOf clocks event o → Meets w o → is_after after o ≡ true
-      → is_kept (map seen vs) o ≡ true → IsToCome files display w after o
-  version-come w after o of meets later kept =
+      → IsUnreplaced files display o → IsToCome files display w after o
+  version-come w after o of meets later unreplaced =
       let given : IsGiven files display w o = record {
         by = own.0;
         chosen = (chosen.listing.exact own.0).0 own.1;
@@ -155,38 +156,59 @@ module _ {files : List FileSaid} {display : Clock} {vs : List Version} {label : 
           meets,
         );
       } in
-      to-come files display w vs chosen after o given kept later
+      to-come files display w vs chosen after o given (unreplaced-kept files display vs chosen o unreplaced) later
 
 module _ {files : List FileSaid} {display : Clock} {label : Label} (r : Recurs files label) {zones : FileZones}
     (read : IsRead files display label r.event zones) (w : Window) (after : Option Rank) (since : ℤ) (from : IsSince after r.event.uid since) where
   abbrev by_file : Clocks
   by_file = clocks_at files display label.spot.file
 
+  low : (o : Entry) → IsOf by_file r.event o → occurrence_first ≤ℤ o.start
+  low o of = of-late zones r.event o read.is_event (subst (λ k. IsOf k r.event o) (sym read.clocks) of)
+
   begun : (o : Entry) → IsOf by_file r.event o → o.start <ℤ w.to → is_after after o ≡ int_le since o.start
   begun o of b =
-      let low = of-late zones r.event o read.is_event (subst (λ k. IsOf k r.event o) (sym read.clocks) of) in
-      from o (ap (λ (v : Event). v.uid) of.event) of.recurrence (omega (arith, ints, low)) (omega (arith, ints, b, w.not_late))
+      let first = low o of in
+      from o (ap (λ (v : Event). v.uid) of.event) of.recurrence first (omega (arith, ints, b, w.not_late))
 
-  met-come : (o : Entry) → IsSeriesMet by_file r.event w since o → IsOfVersion files display w after label o
-  met-come o m = record { by = r; of = m.0.0; meets = m.0.1; later = begun o m.0.0 m.0.1.begun ∙ true_int_le since o.start m.1 }
+  named-alike : {a b : List ℕ} {s t : ℤ} → a ≡ b → s ≡ t → IsOverridden files display a s → IsOverridden files display b t
+  named-alike e f v = rw (e, f) at v
 
-  come-met : (o : Entry) → IsOfVersion files display w after label o → IsSeriesMet by_file r.event w since o
-  come-met o h =
-      let same : h.by.event ≡ r.event = some-same h.by.event r.event (sym h.by.stands ∙ r.stands) in
-      let of : IsOf by_file r.event o = rw same at h.of in
-      ((of, h.meets), int_le_true since o.start (sym (begun o of h.meets.begun) ∙ h.later))
+  own-of : (o : Entry) → IsOfVersion files display w after label o → IsOf by_file r.event o
+  own-of o h = let same : h.by.event ≡ r.event = some-same h.by.event r.event (sym h.by.stands ∙ r.stands) in rw same at h.of
 
-  -- those that begin before the window's end come after the key from the instant on
-  pub behind : IsBehind files display w after label since
-  behind own o of b =
-      let same : own.event ≡ r.event = some-same own.event r.event (sym own.stands ∙ r.stands) in
-      let is : IsOf by_file r.event o = rw same at of in
-      (of-late zones r.event o read.is_event (subst (λ k. IsOf k r.event o) (sym read.clocks) is), begun o is b)
+  -- what is to come of it begins at the instant or later
+  pub come-since : (o : Entry) → IsOfVersion files display w after label o → since ≤ℤ o.start
+  come-since o h = int_le_true since o.start (sym (begun o (own-of o h) h.meets.begun) ∙ h.later)
 
-  -- what its series gives are the occurrences of its event
-  pub series-listing : {list : List Entry} → IsListing entry_cmp (IsSeriesMet (clocks_in zones) r.event w since) list →
-      IsListing entry_cmp (IsOfVersion files display w after label) list
-  series-listing {list = list} l = let k = rw read.clocks at l in relisted k met-come come-met
+  -- From an instant on that is no earlier.
+  module _ {least : ℤ} (late : since ≤ℤ least) where
+    met-come : {replaced : List ℤ} → AreReplaced files display r.event.uid replaced → (o : Entry) → IsSeriesMet by_file r.event w least replaced o
+        → IsOfVersion files display w after label o
+    met-come are o m = record {
+      by = r;
+      of = m.0.0;
+      meets = m.0.1;
+      later = begun o m.0.0 m.0.1.begun ∙ true_int_le since o.start (omega (arith, ints, late, m.1.0));
+      kept = λ v. (are.each o.start).0 m.1.1 (named-alike (ap (λ (e : Event). e.uid) m.0.0.event) m.0.0.recurrence v);
+    }
+
+    -- those that begin before the window's end come after the key
+    pub behind : IsBehind files display w after label least
+    behind own o of b =
+        let same : own.event ≡ r.event = some-same own.event r.event (sym own.stands ∙ r.stands) in
+        let is : IsOf by_file r.event o = rw same at of in
+        (low o is, λ l. begun o is b ∙ true_int_le since o.start (omega (arith, ints, late, l)))
+
+    -- what its series gives are the occurrences of its event, if none of them is earlier
+    pub series-listing : AreFrom files display w after label least → {replaced : List ℤ} → AreReplaced files display r.event.uid replaced → {list : List Entry}
+        → IsListing entry_cmp (IsSeriesMet (clocks_in zones) r.event w least replaced) list → IsListing entry_cmp (IsOfVersion files display w after label) list
+    series-listing first are {list = list} l =
+        let k = rw read.clocks at l in
+        relisted k (met-come are) (λ o h. let of = own-of o h in (
+          (of, h.meets),
+          (first o h (low o of), (are.each o.start).1 (λ v. h.kept (named-alike (sym (ap (λ (e : Event). e.uid) of.event)) (sym of.recurrence) v))),
+        ))
 
 -- an event that starts once does not recur
 pub not-single : {files : List FileSaid} {u v : Version} {event : Event} → u ≡ v → event_at files u.spot ≡ Some event → is_single event ≡ true →
@@ -197,10 +219,11 @@ not-single {files = files} {event = event} is there single r =
 
 -- a version whose event recurs has a list of all its occurrences that meet the window
 pub whole-version : {files : List FileSaid} {display : Clock} {label : Label} {zones : FileZones} (r : Recurs files label) →
-    IsRead files display label r.event zones → (w : Window) → (list : List Entry) × IsListing entry_cmp (IsOfVersion files display w None label) list
-whole-version {zones = zones} r read w =
+    IsRead files display label r.event zones → {replaced : List ℤ} → AreReplaced files display r.event.uid replaced → (w : Window)
+    → (list : List Entry) × IsListing entry_cmp (IsOfVersion files display w None label) list
+whole-version {zones = zones} r read {replaced = replaced} are w =
     let starts = whole-starts (clocks_in zones) w r.event occurrence_first read.is_event in (
-      given_of (clocks_in zones) w r.event occurrence_first starts.0,
-      series-listing r read w None occurrence_first (λ o u e low high. sym (true_int_le occurrence_first o.start low))
-          (listing-by (clocks_in zones) w r.event occurrence_first starts.0 starts.1),
+      given_of (clocks_in zones) w r.event occurrence_first replaced starts.0,
+      series-listing r read w None occurrence_first (λ o u e low high. sym (true_int_le occurrence_first o.start low)) (omega (arith, ints))
+          (λ o h low. low) are (listing-by (clocks_in zones) w r.event occurrence_first replaced starts.0 starts.1),
     )

@@ -44,10 +44,10 @@ use Rattle.ics_starts.proofs.EntryLemmas.{entry_start_cmp, same-entry}
 use Rattle.ics_series.proofs.VersionLemmas.{second-equal, subject_total}
 use Rattle.ics_starts.proofs.MeetsLemmas.{is_met-meets, meets-is_met}
 use Rattle.ics_series.proofs.OverrideLemmas.{named-overrides}
-use Rattle.ics_listing.proofs.ListingLemmas.{filter_map-map, listing-filter, listing-picked, KeepsOrder, listing-sorted, map-climbs, Climbs, all-as}
+use Rattle.ics_listing.proofs.ListingLemmas.{filter_map-map, listing-picked, KeepsOrder, listing-sorted, map-climbs, Climbs, all-as, relisted}
 use Rattle.ics_listing.proofs.UnionLemmas.{from-one, listing-ordered, merged-is, one-from, IsInOne}
 use Rattle.ics_starts.proofs.RawLemmas.{one-start}
-use Rattle.ics_series.proofs.ToComeLemmas.{after-come, come-listed, listed-given, to-come}
+use Rattle.ics_series.proofs.ToComeLemmas.{after-come, come-listed, kept-unreplaced, listed-given, to-come}
 use Rattle.ics_starts.proofs.ZoneLemmas.{none-of, rule-none}
 use Rattle.ics_listing.proofs.StartOrderLemmas.{own-time}
 use Rattle.std.specs.Cmp.{IsTotalOrder}
@@ -269,7 +269,7 @@ singles-whole files display w vs chosen =
     listing-ordered entry_cmp entry_total given_cmp given_total (IsSingleToCome files display w None)
     (λ x y a b e. tied-given files display w None x y a.0 b.0 e) _ (given-listing files display w None vs (filter is_override (map seen vs)) chosen refl)
 
--- What is to come is what the single events give and what each version gives whose event recurs, but for what overrides replace.
+-- What is to come is what the single events give and what each version gives whose event recurs.
 module _ (files : List FileSaid) (display : Clock) (w : Window) (after : Option Rank) where
   abbrev InOne : Entry → List (List Entry) → Type 0
   InOne e lists = IsInOne entry_cmp entry_total e lists
@@ -284,15 +284,13 @@ module _ (files : List FileSaid) (display : Clock) (w : Window) (after : Option 
     abbrev kept : Entry → Bool
     kept = is_kept (map seen vs)
 
-    -- what the list of a master has is to come where no override stands for it
+    -- what the list of a master has is to come
     each-come : (lists : List (List Entry)) (e : Entry) → AllByRecursion (IsOneOf files display w after (map seen vs)) lists → InOne e lists →
-        (is_single e.event ≡ false) × (kept e ≡ true → IsToCome files display w after e)
+        IsToCome files display w after e
     each-come [] e h m = absurd m
     each-come (x ∷ xs) e h m =
         ⊎_elim
-        (λ n.
-        let v = (h.0.listing.exact e).0 n in
-        (ap is_single v.of.event ∙ v.by.recurs, version-come chosen h.0.stands v.by w after e v.of v.meets v.later))
+        (λ n. let v = (h.0.listing.exact e).0 n in version-come chosen h.0.stands v.by w after e v.of v.meets v.later v.kept)
         (λ n. each-come xs e h.1 n) m
 
     come-kept : (e : Entry) → IsToCome files display w after e → kept e ≡ true
@@ -318,51 +316,32 @@ module _ (files : List FileSaid) (display : Clock) (w : Window) (after : Option 
           of = rw none at g.is.0;
           meets = g.is.1;
           later = after-come files display w after e t;
+          kept = kept-unreplaced files display vs chosen e (ap (λ (v : Event). v.recurrence) event ∙ recurring-master g.by.event own) (come-kept e t);
         }) in
         inr (⊎_elim (λ empty. absurd (subst (IsIn e) empty own)) (λ n. in-one e has.list more n own) has.stands))
         (cases_Bool (is_single e.event))
 
-    -- masters' occurrences of one key are kept alike
-    kept-tied : (e x : Entry) → is_single e.event ≡ false → is_single x.event ≡ false → entry_cmp e x ≡ Equal → kept e ≡ kept x
-    kept-tied e x s n tied =
-        let none = recurring-master e.event s ∙ sym (recurring-master x.event n) in
-        let same = same-key e x tied in
-        λ i. is_some (none i) || not (is_named (record { uid = same.0 i; recurrence = Some (same.1 i) }) (map seen vs))
+    -- what one of the lists has is to come
+    in-come : (e : Entry) → InOne e (singles ∷ more) → IsToCome files display w after e
+    in-come e m = ⊎_elim (λ n. ((single.exact e).0 n).0) (each-come more e are.each) m
 
-    -- what has the key of an occurrence to come of a master is to come
-    tied-come : (e x : Entry) → IsToCome files display w after e → is_single e.event ≡ false → InOne x (singles ∷ more) → entry_cmp e x ≡ Equal →
-        IsToCome files display w after x
-    tied-come e x t s m tied =
-        ⊎_elim (λ n. ((single.exact x).0 n).0)
-        (λ n. let own = each-come more x are.each n in own.1 (sym (kept-tied e x s own.0 tied) ∙ come-kept e t)) m
-
-    -- so the first list that has the key has the occurrence
+    -- and of those with one key the first list has it
     come-first : (e : Entry) → IsToCome files display w after e → IsFromFirst entry_cmp e (singles ∷ more)
     come-first e t =
-        ⊎_elim (λ s. inl ((single.exact e).1 (t, s)))
-        (λ s.
-        one-from entry_cmp entry_total e (singles ∷ more) (λ x m tied. sym (one-key files display w after e x t (tied-come e x t s m tied) tied))
-        (come-part e t))
-        (cases_Bool (is_single e.event))
+        one-from entry_cmp entry_total e (singles ∷ more) (λ x m tied. sym (one-key files display w after e x t (in-come x m) tied)) (come-part e t)
 
-    -- the merge of what they give is the listing, but for what overrides replace
-    pub parts-listing : IsListing entry_cmp (IsToCome files display w after) (filter (is_kept (map seen vs)) (merged entry_cmp (singles ∷ more)))
+    -- the merge of what they give is the listing
+    pub parts-listing : IsListing entry_cmp (IsToCome files display w after) (merged entry_cmp (singles ∷ more))
     parts-listing =
         let rise = all-as (IsOneOf files display w after (map seen vs)) (Rises entry_cmp) more (λ xs h. h.listing.rises) are.each in
-        listing-filter kept entry_cmp (λ e. IsFromFirst entry_cmp e (singles ∷ more)) (IsToCome files display w after)
-        (merged entry_cmp (singles ∷ more)) (merged-is entry_cmp entry_total (singles ∷ more) (single.rises, rise))
-        (λ e m k. ⊎_elim (λ n. ((single.exact e).0 n).0) (λ n. (each-come more e are.each n).1 k) (from-one entry_cmp entry_total e (singles ∷ more) m))
-        (λ e t. (come-first e t, come-kept e t))
+        relisted (merged-is entry_cmp entry_total (singles ∷ more) (single.rises, rise))
+        (λ e m. in-come e (from-one entry_cmp entry_total e (singles ∷ more) m)) come-first
 
   -- so where they were pushed behind the single events
-  pub pushed-listing : {vs : List Version} (os : List Version) (singles : List Entry) {lists : List (List Entry)} → AreChosen files display vs →
-      map seen os ≡ filter is_override (map seen vs)
+  pub pushed-listing : {vs : List Version} (singles : List Entry) {lists : List (List Entry)} → AreChosen files display vs
       → IsListing entry_cmp (IsSingleToCome files display w after) singles → HasLists files display w after (map seen vs) (singles ∷ []) lists
-      → IsListing entry_cmp (IsToCome files display w after) (filter (is_kept (map seen os)) (merged entry_cmp lists))
-  pushed-listing {vs = vs} os singles {lists = lists} chosen overrides single h =
-      subst (λ (test : Entry → Bool). IsListing entry_cmp (IsToCome files display w after) (filter test (merged entry_cmp lists)))
-      (λ i o. sym (kept-same files display w after vs (map seen os) chosen overrides o) i)
-      (rw h.behind (parts-listing vs chosen singles single h.more h.are))
+      → IsListing entry_cmp (IsToCome files display w after) (merged entry_cmp lists)
+  pushed-listing {vs = vs} singles chosen single h = rw h.behind (parts-listing vs chosen singles single h.more h.are)
 
   -- and what comes is what of the whole listing stands after the key
   pub behind-key : {come : List Entry} → (list : List Entry) × IsListing entry_cmp (IsListed files display w) list

@@ -21,7 +21,7 @@ use Rattle.ics_listing.specs.Listing.{IsIn, IsListing}
 use Rattle.ics_series.specs.Inner.Masters.{HasSources, IsSource, IsSourceOf, Recurs, HasLists, IsOfVersion, IsOneOf}
 use Rattle.ics_listing.specs.Rising.{Rises}
 use Rattle.ics_starts.specs.SingleEvents.{is_single}
-use Rattle.ics_series.specs.Sources.{is_once, recurring, uid_cmp, AreSources, IsMasterOf}
+use Rattle.ics_series.specs.Sources.{is_once, recurring, uid_cmp, AreSources, IsFrom, IsMasterOf}
 use Rattle.ics_listing.specs.FeedSources.{Recurring, Source}
 use Rattle.ics_listing.specs.FeedSources.Source.{Of, Once}
 use Rattle.ics_series.specs.Versions.{seen, subject_cmp, AreChosen, Label}
@@ -133,6 +133,11 @@ from-next key t e fits = by key.start e fits
     by : (a : ℤ) → t ≡ saturate_signed w64 (a +ℤ pos 1) → SFits w64 a → a ≤ℤ t
     by (pos n) e f = grind (arith, ints)
     by _ e f = grind (arith, ints)
+
+-- nor does what begins later
+pub from-later : (after : Option Rank) {since least : ℤ} → IsFrom after since → since ≤ℤ least → IsFrom after least
+from-later None is late = tt
+from-later (Some key) is late = omega (arith, ints, is, late)
 
 in-taken : (vs : List Version) (i : ℕ) (l : Label) → IsIn l (map seen (take i vs)) → IsIn l (map seen vs)
 in-taken vs i l m =

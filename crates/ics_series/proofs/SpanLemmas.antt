@@ -1,5 +1,5 @@
 -- Which versions cannot meet a window, known from their spans, and near which days nothing is.
-use Rattle.std.proofs.Common.{◌≡◌, ℕ, ℤ, pos, negsuc, ◌+ℤ◌, ◌-ℤ◌, ◌<ℤ◌, ◌≤ℤ◌, List, [], ◌∷◌, map, inl, inr, ⊎_elim, Option, Some, None, Bool, true, false}
+use Rattle.std.proofs.Common.{◌≡◌, ℕ, ℤ, pos, ◌+ℤ◌, ◌-ℤ◌, ◌<ℤ◌, ◌≤ℤ◌, List, [], ◌∷◌, map, inl, inr, ⊎_elim, Option, Some, None, Bool, true, false}
 use Rattle.std.proofs.Common.{refl, sym}
 use Rattle.std.proofs.Common.{◌∙◌, ap, ◌+◌, ◌<◌, ◌++◌, length, drop, get_or, add-one, drop-cons}
 use Rattle.std.proofs.Common.{subst, arith, int_lt, int_le, slice_get, option_map, option_and_then, if◌then◌else◌, IsTrue, Ordering, ◌⊎◌}
@@ -27,9 +27,10 @@ use Rattle.ics_listing.specs.Entry.{entry_cmp, Entry, Rank}
 use Rattle.ics_series.specs.Laws.{HasVersion}
 use Rattle.ics_listing.specs.Listing.{IsIn, IsListing}
 use Rattle.ics_starts.specs.FileZones.{clocks_in}
-use Rattle.ics_series.specs.Inner.Masters.{IsBehind, IsOfVersion, IsSourceOf, Recurs}
+use Rattle.ics_series.specs.Inner.Masters.{AreFrom, IsBehind, IsOfVersion, IsSourceOf, Recurs}
 use Rattle.ics_listing.specs.WindowMeeting.{is_met}
 use Rattle.ics_series.specs.Meets.{IsListed}
+use Rattle.ics_starts.specs.Instances.{IsOf}
 use Rattle.ics_starts.specs.MeetsWindow.{Meets}
 use Rattle.ics_listing.specs.Merged.{merged}
 use Rattle.ics_series.specs.PlacedEvents.{Placed, IsPlaced, clocks_at}
@@ -37,8 +38,8 @@ use Rattle.ics_listing.specs.Rising.{Rises}
 use Rattle.ics_starts.specs.SingleEvents.{begun_first, entry_first, is_single}
 use Rattle.ics_series.specs.Singles.{single_at, single_of}
 use Rattle.ics_series.specs.Inner.SpanLaws.{AreThoseChosen}
-use Rattle.ics_series.specs.Inner.Spans.{always, can_meet, first_of, is_out, is_out_of, span_at, span_by, span_of, span_once, AreMovedOn, AreSpans}
-use Rattle.ics_series.specs.Inner.Spans.{floor_of, AreSpansAfter, IsLater, IsMovedOn, IsRest, IsStartedBy, NoneMeets}
+use Rattle.ics_series.specs.Inner.Spans.{always, can_meet, first_at, first_in, first_of, is_out, is_out_of, span_at, span_by, span_of, span_once, IsKeptFrom}
+use Rattle.ics_series.specs.Inner.Spans.{floor_of, AreMovedOn, AreSpans, AreSpansAfter, IsLater, IsMovedOn, IsRest, IsSpanOf, IsStartedBy, NoneMeets}
 use Rattle.ics_listing.specs.After.{is_after}
 use Rattle.ics_listing.specs.WindowBounds.{occurrence_first}
 use Rattle.ics_starts.specs.SeriesFeed.{series_sources}
@@ -55,7 +56,7 @@ use Rattle.ics_starts.proofs.MeetsLemmas.{is_met-meets, meets-is_met}
 use Rattle.ics_series.proofs.MarkLemmas.{first_source}
 use Rattle.ics_series.proofs.RecurringLemmas.{recurring-master}
 use Rattle.ics_series.proofs.SinglesLemmas.{given-first}
-use Rattle.ics_series.proofs.ToComeLemmas.{listed-given}
+use Rattle.ics_series.proofs.ToComeLemmas.{kept-unreplaced, listed-given}
 use Rattle.ics_listing.proofs.UnionLemmas.{merged-listing, IsInOne}
 use Rattle.ics_series.proofs.VersionLemmas.{exact-subject, group-total, in-placed, map-in, one-chosen, one-version, placed-event, placed-in}
 
@@ -177,19 +178,29 @@ module _ (outer w : Window) (late : w.to ≤ℤ outer.to) where
         (λ e. e) (cases_Bool (is_met w (entry_first clocks event r)))
 
     -- an event whose span cannot meet the window has nothing there
-    none-meets : (floor : Option ℤ) → NoneMeets clocks event w floor
-    none-meets floor = record { once = λ s r. out-met r; each = λ r. let no : true ≡ false = sym out-single ∙ r in absurd cc }
+    none-meets : (IsAsked : Entry → Type 0) → NoneMeets clocks event w IsAsked
+    none-meets IsAsked = record { once = λ s r. out-met r; each = λ r. let no : true ≡ false = sym out-single ∙ r in absurd cc }
 
--- spans as they were found are those of the versions, for windows that do not end later
+-- a span as it was found is that of its event, for windows that do not end later
+span-of-event : (outer w : Window) → w.to ≤ℤ outer.to → (clocks : Clocks) (event : Event) (IsAsked : Entry → Type 0)
+    → IsSpanOf clocks event w IsAsked (span_by clocks outer event)
+span-of-event outer w late clocks event IsAsked = record {
+  none = λ out. none-meets outer w late clocks event out IsAsked;
+  first = λ recurs o of meets started low.
+      subst (λ b. (if b then span_once clocks outer event else always).first ≤ℤ o.start) (sym recurs) (omega (arith, ints, low));
+}
+
+-- so such spans are those of the versions
 pub are-spans : (files : List FileSaid) (display : Clock) (outer w : Window) → w.to ≤ℤ outer.to → (floor : Option ℤ) (labels : List Label) {spans : List Span}
     → spans ≡ map (span_at files display outer) labels → AreSpans files display w floor labels spans
-are-spans files display outer w late floor labels {spans = spans} is k s l event at there stands out =
+are-spans files display outer w late floor labels {spans = spans} is k s l event at there stands =
     let here : Some s ≡ Some (span_at files display outer l) =
     sym at ∙ (ap (λ xs. slice_get xs k) is
     ∙ (slice_get-map (span_at files display outer) labels k ∙ ap (option_map (span_at files display outer)) there)) in
-    let same : s ≡ span_at files display outer l = ap (λ o. unwrap_or o s) here in
-    none-meets outer w late (clocks_at files display l.spot.file) event
-    (ap (λ o. can_meet (span_of (clocks_at files display l.spot.file) outer o) w) (sym stands) ∙ (ap (λ x. can_meet x w) (sym same) ∙ out)) floor
+    let clocks = clocks_at files display l.spot.file in
+    let same : s ≡ span_by clocks outer event = ap (λ o. unwrap_or o s) here ∙ ap (span_of clocks outer) stands in
+    subst (IsSpanOf clocks event w (IsKeptFrom files display floor)) (sym same)
+    (span-of-event outer w late clocks event (IsKeptFrom files display floor))
 
 -- where there are no spans all is looked at
 pub no-spans : (files : List FileSaid) (display : Clock) (w : Window) (floor : Option ℤ) (labels : List Label) {spans : List Span} → spans ≡ []
@@ -200,12 +211,13 @@ no-spans files display w floor labels e k s l event at = let f : None ≡ Some s
 module _ (files : List FileSaid) (display : Clock) (w : Window) {floor : Option ℤ} (labels : List Label) (spans : List Span)
     (are : AreSpans files display w floor labels spans)
     (i : ℕ) {l : Label} (there : slice_get labels i ≡ Some l) (out : is_out spans i w ≡ true) where
-  out-at : (event : Event) → event_at files l.spot ≡ Some event → NoneMeets (clocks_at files display l.spot.file) event w floor
+  out-at : (event : Event) → event_at files l.spot ≡ Some event
+      → NoneMeets (clocks_at files display l.spot.file) event w (IsKeptFrom files display floor)
   out-at event stands = by (slice_get spans i) refl
     where
-      by : (o : Option Span) → slice_get spans i ≡ o → NoneMeets (clocks_at files display l.spot.file) event w floor
+      by : (o : Option Span) → slice_get spans i ≡ o → NoneMeets (clocks_at files display l.spot.file) event w (IsKeptFrom files display floor)
       by None e = let no : false ≡ true = ap (λ o. is_out_of o w) (sym e) ∙ out in absurd cc
-      by (Some s) e = are i s l event e there stands (not-true (can_meet s w) (ap (λ o. is_out_of o w) (sym e) ∙ out))
+      by (Some s) e = (are i s l event e there stands).none (not-true (can_meet s w) (ap (λ o. is_out_of o w) (sym e) ∙ out))
 
   -- it gives nothing there
   pub out-none : (os : List Label) (after : Option Rank) → single_at files display w os after l ≡ None
@@ -226,7 +238,7 @@ module _ (files : List FileSaid) (display : Clock) (w : Window) {floor : Option 
   -- nor has its event an occurrence there, where it recurs
   pub out-version : (after : Option Rank) → ((o : Entry) → is_after after o ≡ true → IsStartedBy floor o) → (o : Entry)
       → IsOfVersion files display w after l o → ⊥
-  out-version after above o v = (out-at v.by.event v.by.stands).each v.by.recurs o v.of v.meets (above o v.later)
+  out-version after above o v = (out-at v.by.event v.by.stands).each v.by.recurs o v.of v.meets (record { started = above o v.later; kept = v.kept })
 
 -- Where no span can meet a window nothing does.
 module _ (files : List FileSaid) (display : Clock) (vs : List Version) (chosen : AreChosen files display vs) (spans : List Span)
@@ -244,15 +256,16 @@ module _ (files : List FileSaid) (display : Clock) (vs : List Version) (chosen :
 
   pub none-of : {floor : Option ℤ} (n : Window) → AreSpans files display n floor (map seen vs) spans
       → ((s : Span) → IsIn s spans → can_meet s n ≡ false) → (l : Label) (event : Event)
-      → IsIn l (map seen vs) → event_at files l.spot ≡ Some event → NoneMeets (clocks_at files display l.spot.file) event n floor
+      → IsIn l (map seen vs) → event_at files l.spot ≡ Some event → NoneMeets (clocks_at files display l.spot.file) event n (IsKeptFrom files display floor)
   none-of n are none l event m stands =
-      let k = span-there l m in are k.0 k.1 l event k.2 k.3 stands (none k.1 (get-in k.1 spans k.0 k.2))
+      let k = span-there l m in (are k.0 k.1 l event k.2 k.3 stands).none (none k.1 (get-in k.1 spans k.0 k.2))
 
   pub none-out : {floor : Option ℤ} (n : Window) → AreSpans files display n floor (map seen vs) spans
       → ((s : Span) → IsIn s spans → can_meet s n ≡ false) → (o : Entry)
       → IsListed files display n o → IsStartedBy floor o → ⊥
   none-out n are none o listed started =
-      let g = (listed-given files display n vs chosen o listed).0 in
+      let given = listed-given files display n vs chosen o listed in
+      let g = given.0 in
       let label = label_of files display g.by in
       let there : IsIn label (map seen vs) = rw chosen.are (map-in (label_of files display) g.by chosen.chosen ((chosen.listing.exact g.by).1 g.chosen)) in
       let out = none-of n are none label g.by.event there (placed-event files g.by g.chosen.placed) in
@@ -263,44 +276,66 @@ module _ (files : List FileSaid) (display : Clock) (vs : List Version) (chosen :
       let no : true ≡ false = sym (meets-is_met n o g.is.1) ∙ (ap (is_met n) first ∙ out.once single (overridden clocks g.by.event)) in absurd cc)
       (λ recurs.
       let own = ap (option_map (instant clocks)) (recurring-master g.by.event recurs) in
-      out.each recurs o (rw own at g.is.0) g.is.1 started)
+      let of : IsOf clocks g.by.event o = rw own at g.is.0 in
+      let none = ap (λ (e : Event). e.recurrence) of.event ∙ recurring-master g.by.event recurs in
+      out.each recurs o of g.is.1 (record { started = started; kept = kept-unreplaced files display vs chosen o none given.1 }))
       (cases_Bool (is_single g.by.event))
 
--- what begins at the floor or later does so from the instant on with which a series begins
-low-start : (since : ℤ) (floor : Option ℤ) → since ≤ℤ unwrap_or floor (negsuc 9_223_372_036_854_775_807) → (o : Entry) → IsStartedBy floor o
-    → occurrence_first ≤ℤ o.start → since ≤ℤ o.start
-low-start since None low o started first = omega (arith, ints, low, first)
-low-start since (Some floor) low o started first = omega (arith, ints, low, started)
+-- What the span at a place tells of when an event that recurs is.
+module _ (files : List FileSaid) (display : Clock) (w : Window) {floor : Option ℤ} (labels : List Label) (spans : List Span)
+    (are : AreSpans files display w floor labels spans) (k : ℕ) {l : Label} (there : slice_get labels k ≡ Some l) (event : Event)
+    (stands : event_at files l.spot ≡ Some event) (recurs : is_single event ≡ false) where
+  pub from-first : (o : Entry) → IsOf (clocks_at files display l.spot.file) event o → Meets w o → IsKeptFrom files display floor o
+      → occurrence_first ≤ℤ o.start → first_at spans k ≤ℤ o.start
+  from-first o of meets started low = by (slice_get spans k) refl
+    where
+      by : (s : Option Span) → slice_get spans k ≡ s → first_in s ≤ℤ o.start
+      by None e = omega (arith, ints, low)
+      by (Some s) e = (are k s l event e there stands).first recurs o of meets started low
+
+-- so of what is to come
+pub come-first : (files : List FileSaid) (display : Clock) (w : Window) {floor : Option ℤ} (labels : List Label) (spans : List Span)
+    → AreSpans files display w floor labels spans → (k : ℕ) {l : Label} → slice_get labels k ≡ Some l → (after : Option Rank)
+    → ((o : Entry) → is_after after o ≡ true → IsStartedBy floor o) → AreFrom files display w after l (first_at spans k)
+come-first files display w labels spans are k there after above o v low =
+    from-first files display w labels spans are k there v.by.event v.by.stands v.by.recurs o v.of v.meets
+    (record { started = above o v.later; kept = v.kept }) low
+
+-- what begins at the floor or later, and with the span or later, does so from the instant on with which a series begins
+low-start : (since first : ℤ) (floor : Option ℤ) → since ≤ℤ int_max (unwrap_or floor always.first) first → (o : Entry) → IsStartedBy floor o
+    → first ≤ℤ o.start → occurrence_first ≤ℤ o.start → since ≤ℤ o.start
+low-start since first None low o started begun early = omega (arith, ints, low, begun, early, int_max_is always.first first)
+low-start since first (Some floor) low o started begun early = omega (arith, ints, low, begun, started, int_max_is floor first)
 
 -- Spans that are moved on.
 module _ (files : List FileSaid) (display : Clock) (w : Window) (floor : Option ℤ) (labels : List Label) where
   -- the span of a master that has nothing in the window
   module _ (k : ℕ) {l : Label} (there : slice_get labels k ≡ Some l) (r : Recurs files l) {after : Option Rank} {since : ℤ}
       (behind : IsBehind files display w after l since) where
-    none-later : {s : Span} → since ≤ℤ unwrap_or floor (negsuc 9_223_372_036_854_775_807) → ((o : Entry) → IsOfVersion files display w after l o → ⊥)
-        → IsRest (clocks_at files display l.spot.file) r.event w since s
-        → (n : Window) → IsLater w n → can_meet s n ≡ false → NoneMeets (clocks_at files display l.spot.file) r.event n floor
-    none-later {s = s} low none rest n later out = record {
-      once = λ single. let no : true ≡ false = sym single ∙ r.recurs in absurd cc;
-      each = λ recurs o of meets started. elim (less_or_not_z o.start w.to) [
-        | inl begun ↦
-            let come = behind r o of begun in
-            none o (record {
-              by = r;
-              of = of;
-              meets = here o meets begun;
-              later = come.1 ∙ true_int_le since o.start (low-start since floor low o started come.0);
-            })
-        | inr end ↦ absurd (
-            let first = rest.first o of end (low-start since floor low o started (omega (arith, ints, w.not_early, w.ordered, end))) in
-            let start = meets.begun in
-            let most : n.to ≤ℤ s.first = elim (less_or_not_z s.first n.to) [
-              | inl less ↦ absurd (
-                  let yes = both-true n n (omega (arith, ints)) s less (omega (arith, ints, rest.last, n.ordered, n.not_late)) in
-                  let no : true ≡ false = sym yes ∙ out in cc)
-              | inr most ↦ most
-            ] in
-            omega (arith, ints, first, start, most))
+    none-later : (old : List Span) {s : Span} → since ≤ℤ int_max (unwrap_or floor always.first) (first_at old k)
+        → ((o : Entry) → IsOfVersion files display w after l o → ⊥) → IsRest (clocks_at files display l.spot.file) r.event w since s
+        → (n : Window) → IsLater w n → AreSpans files display n floor labels old
+        → IsSpanOf (clocks_at files display l.spot.file) r.event n (IsKeptFrom files display floor) s
+    none-later old {s = s} low none rest n later are = record {
+      none = λ out. record {
+        once = λ single. let no : true ≡ false = sym single ∙ r.recurs in absurd cc;
+        each = λ recurs o of meets started. elim (less_or_not_z o.start w.to) [
+          | inl begun ↦ early o of meets started begun
+          | inr end ↦ absurd (
+              let first = late o of meets started end in
+              let start = meets.begun in
+              let most : n.to ≤ℤ s.first = elim (less_or_not_z s.first n.to) [
+                | inl less ↦ absurd (
+                    let yes = both-true n n (omega (arith, ints)) s less (omega (arith, ints, rest.last, n.ordered, n.not_late)) in
+                    let no : true ≡ false = sym yes ∙ out in cc)
+                | inr most ↦ most
+              ] in
+              omega (arith, ints, first, start, most))
+        ];
+      };
+      first = λ recurs o of meets started enough. elim (less_or_not_z o.start w.to) [
+        | inl begun ↦ absurd (early o of meets started begun)
+        | inr end ↦ late o of meets started end
       ];
     }
       where
@@ -311,20 +346,35 @@ module _ (files : List FileSaid) (display : Clock) (w : Window) (floor : Option 
           started = λ t. let from = m.started (subst IsTrue later.same t) in omega (arith, ints, from, later.from);
         }
 
+        from : (o : Entry) → IsOf (clocks_at files display l.spot.file) r.event o → Meets n o → IsKeptFrom files display floor o
+            → occurrence_first ≤ℤ o.start → since ≤ℤ o.start
+        from o of meets started enough =
+            let begun = from-first files display n labels old are k there r.event r.stands r.recurs o of meets started enough in
+            low-start since (first_at old k) floor low o started.started begun enough
+
+        -- none begins before the window's end, since it would meet the window
+        early : (o : Entry) → IsOf (clocks_at files display l.spot.file) r.event o → Meets n o → IsKeptFrom files display floor o → o.start <ℤ w.to → ⊥
+        early o of meets started begun =
+            let come = behind r o of begun in
+            none o (record { by = r; of = of; meets = here o meets begun; later = come.1 (from o of meets started come.0); kept = started.kept })
+
+        -- nor one from there on before the span
+        late : (o : Entry) → IsOf (clocks_at files display l.spot.file) r.event o → Meets n o → IsKeptFrom files display floor o → w.to ≤ℤ o.start
+            → s.first ≤ℤ o.start
+        late o of meets started end = rest.first o of end (from o of meets started (omega (arith, ints, w.not_early, w.ordered, end)))
+
     moved-at : {coming : List Entry} {old new : List Span} → IsListing entry_cmp (IsOfVersion files display w after l) coming
         → IsMovedOn (clocks_at files display l.spot.file) r.event w since floor coming old k new → AreMovedOn files display w floor labels old new
     moved-at listing (inl e) = record { size = ap length e; still = λ n later are. subst (AreSpans files display n floor labels) (sym e) are }
     moved-at {old = old} {new = new} listing (inr put) = record {
       size = put.put.0;
-      still = λ n later are j s label event at place stands out. ⊎_elim
-          (λ before. are j s label event before place stands out)
+      still = λ n later are j s label event at place stands. ⊎_elim
+          (λ before. are j s label event before place stands)
           (λ mine.
           let label-is : label ≡ l = ap (λ o. unwrap_or o label) (sym place ∙ (ap (slice_get labels) mine.0 ∙ there)) in
           let event-is : event ≡ r.event =
           ap (λ o. unwrap_or o event) (sym stands ∙ (ap (λ (x : Label). event_at files x.spot) label-is ∙ r.stands)) in
-          rw (label-is, event-is)
-          (none-later put.low (λ o v. subst (IsIn o) put.empty ((listing.exact o).1 v)) put.rest n later
-          (ap (λ x. can_meet x n) (sym mine.1) ∙ out)))
+          rw (label-is, event-is, mine.1) (none-later old put.low (λ o v. subst (IsIn o) put.empty ((listing.exact o).1 v)) put.rest n later are))
           (put.put.1 j s at);
     }
 
@@ -363,8 +413,10 @@ module _ (files : List FileSaid) (display : Clock) (b : Bounds) (w : Window) (vs
       → ((x : ℤ) → day <ℤ x → x <ℤ next → (s : Span) → IsIn s old → (clock : Clock) (n : Window) → IsNearDay clock w b x n → can_meet s n ≡ false)
       → AreSpansAfter files display b w day (map seen vs) new
   after-same chosen none x n later h = elim (less_or_not_z x next) [
-    | inl before ↦ λ k s l event at place stands out. none-of files display vs chosen old size n (are x n later h)
-        (λ s m. none x later before s m display n h) l event (get-in l (map seen vs) k place) stands
+    | inl before ↦ λ k s l event at place stands.
+        let out = none-of files display vs chosen old size n (are x n later h) (λ s m. none x later before s m display n h) l event
+        (get-in l (map seen vs) k place) stands in
+        record { none = λ past. out; first = λ recurs o of meets started low. absurd (out.each recurs o of meets started) }
     | inr on ↦ moved.still n (near-later near h on) (are x n later h)
   ]
 
@@ -454,9 +506,15 @@ meets-floor w o met = by w.notstarted refl
 -- spans as they were found near a day are those of what is listed
 pub spans-floor : (files : List FileSaid) (display : Clock) (w : Window) (floor : Option ℤ) (labels : List Label) (spans : List Span)
     → AreSpans files display w None labels spans → AreSpans files display w floor labels spans
-spans-floor files display w floor labels spans are k s l event at there stands out =
-    let none = are k s l event at there stands out in
-    record { once = none.once; each = λ recurs o of meets started. none.each recurs o of meets tt }
+spans-floor files display w floor labels spans are k s l event at there stands =
+    let is = are k s l event at there stands in
+    record {
+      none = λ out. record {
+        once = (is.none out).once;
+        each = λ recurs o of meets started. (is.none out).each recurs o of meets (record { started = tt; kept = started.kept });
+      };
+      first = λ recurs o of meets started low. is.first recurs o of meets (record { started = tt; kept = started.kept }) low;
+    }
 
 -- So nothing is shown under them.
 module _ (files : List FileSaid) (display : Clock) (w : Window) (b : Bounds) (bounded : HasOffsets display w b) (vs : List Version)

@@ -1,5 +1,5 @@
 -- What is left of the occurrences that are given: those for which no override stands, after a key.
-use Rattle.std.proofs.Common.{◌≡◌, List, map, inl, inr, ⊎_elim, Option, Some, None, Bool, true, false, refl, sym, ◌∙◌, ap, is_some, not}
+use Rattle.std.proofs.Common.{◌≡◌, List, map, inl, inr, ⊎_elim, Option, Some, None, true, false, refl, sym, ◌∙◌, ap, is_some, not}
 use Rattle.std.proofs.Common.{option_map, is_lt, Ordering, Less}
 use Rattle.std.proofs.lemmas.Bool.{false_from_ne_true, not_from_false, not_from_true, or_right}
 use Rattle.ics_file.specs.File.{FileSaid}
@@ -40,27 +40,35 @@ module _ (files : List FileSaid) (display : Clock) (w : Window) where
   come-listed None o t = t
   come-listed (Some key) o t = t.0
 
+-- What is kept of a master no override replaces.
+pub kept-unreplaced : (files : List FileSaid) (display : Clock) (vs : List Version) → AreChosen files display vs → (o : Entry) → o.event.recurrence ≡ None
+    → is_kept (map seen vs) o ≡ true → IsOverridden files display o.event.uid o.recurrence → ⊥
+kept-unreplaced files display vs h o none e v =
+    let named-so = not_from_true (is_named (record { uid = o.event.uid; recurrence = Some o.recurrence }) (map seen vs))
+    (overridden-named files display vs h o.event.uid o.recurrence v) in
+    let kept : not (is_named (record { uid = o.event.uid; recurrence = Some o.recurrence }) (map seen vs)) ≡ true = rw none at e in
+    cc
+
+-- And what none replaces is kept.
+pub unreplaced-kept : (files : List FileSaid) (display : Clock) (vs : List Version) → AreChosen files display vs → (o : Entry)
+    → (IsOverridden files display o.event.uid o.recurrence → ⊥) → is_kept (map seen vs) o ≡ true
+unreplaced-kept files display vs h o unreplaced =
+    let named = is_named (record { uid = o.event.uid; recurrence = Some o.recurrence }) (map seen vs) in
+    or_right (is_some o.event.recurrence) (not named) (not_from_false named
+    (false_from_ne_true named (λ n. unreplaced (named-overridden files display vs h o.event.uid o.recurrence n))))
+
 -- Of what is given that is listed which is kept.
 module _ (files : List FileSaid) (display : Clock) (w : Window) (vs : List Version) (h : AreChosen files display vs) where
-  abbrev named : Entry → Bool
-  named o = is_named (record { uid = o.event.uid; recurrence = Some o.recurrence }) (map seen vs)
-
   given-occurs : (o : Entry) → IsGiven files display w o → is_kept (map seen vs) o ≡ true → Occurs files display o
   given-occurs o g e = by g.by.event.recurrence refl g.is.0
     where
-      unnamed : o.event.recurrence ≡ None → IsOverridden files display o.event.uid o.recurrence → ⊥
-      unnamed none v =
-          let named-so = not_from_true (named o) (overridden-named files display vs h o.event.uid o.recurrence v) in
-          let kept : not (named o) ≡ true = rw none at e in
-          cc
-
       by : (r : Option Time) → g.by.event.recurrence ≡ r →
           IsGivenBy (clocks_at files display g.by.file) g.by.event (option_map (instant (clocks_at files display g.by.file)) r) o → Occurs files display o
       by None none of = inl (record {
         master = g.by;
         is = record { chosen = g.chosen; single = none };
         of = of;
-        kept = unnamed (ap (λ (v : Event). v.recurrence) of.event ∙ none);
+        kept = kept-unreplaced files display vs h o (ap (λ (v : Event). v.recurrence) of.event ∙ none) e;
       })
       by (Some time) some of = inr (record {
         override = g.by;
@@ -75,8 +83,7 @@ module _ (files : List FileSaid) (display : Clock) (w : Window) (vs : List Versi
       chosen = m.is.chosen;
       is = (rw (ap (option_map (instant (clocks_at files display m.master.file))) m.is.single) m.of, meets);
     },
-    or_right (is_some o.event.recurrence) (not (named o)) (not_from_false (named o)
-        (false_from_ne_true (named o) (λ n. m.kept (named-overridden files display vs h o.event.uid o.recurrence n)))),
+    unreplaced-kept files display vs h o m.kept,
   )
 
   override-given : (o : Entry) → IsOfOverride files display o → Meets w o → IsGiven files display w o × (is_kept (map seen vs) o ≡ true)

@@ -28,7 +28,6 @@ use Rattle.ics_series.specs.Versions.{by_subject, label_of, seen, AreChosen, Lab
 use Rattle.ics_series.specs.Inner.Masters.{HasLists, IsOfVersion, Recurs}
 use Rattle.ics_series.specs.Meets.{IsListed}
 use Rattle.ics_listing.specs.Merged.{merged}
-use Rattle.ics_series.specs.Overridden.{is_kept}
 use Rattle.ics_starts.specs.SingleEvents.{is_single}
 use Rattle.ics_series.specs.Spots.{event_at}
 use Rattle.ics_listing.specs.declared.window.Window.{Window}
@@ -39,6 +38,7 @@ use Rattle.ics_starts.proofs.InstantLemmas.{near-at, near-display, near-utc, wri
 use Rattle.ics_listing.proofs.ListingLemmas.{get-in, listing-filter}
 use Rattle.ics_series.proofs.OverrideLemmas.{any_version}
 use Rattle.ics_series.proofs.RecurringLemmas.{not-single, own, own-event, whole-version, IsRead}
+use Rattle.ics_series.proofs.ReplacedLemmas.{are-replaced, named-among}
 use Rattle.ics_series.proofs.SinglesLemmas.{parts-listing, singles-whole}
 use Rattle.ics_series.proofs.SourceLemmas.{versions-all, versions-more, versions-skip}
 use Rattle.ics_series.proofs.VersionLemmas.{in-map, map-in, placed-event}
@@ -133,7 +133,7 @@ module _ (files : List FileEvents) (display : Display) {vs : List Version} (chos
         clocks = ap (clocks_of clock) (sym zones.1);
         is_event = subst IsEvent (own-event chosen stands r) (read placed.0 ((chosen.listing.exact placed.0).0 placed.1).placed).is_event;
       } in
-      whole-version r is w
+      whole-version r is (are-replaced said clock vs chosen r.event.uid (λ t. named-among r.event.uid t (map seen vs))) w
 
   list-more : (i : ℕ) {v : Version} → slice_get vs i ≡ Some v → HasListsTo i → HasListsTo (i + 1)
   list-more i {v = v} there before =
@@ -159,5 +159,4 @@ module _ (files : List FileEvents) (display : Display) {vs : List Version} (chos
       let singles = singles-whole said clock w vs chosen in
       let lists = lists-to (length vs) (omega arith) in
       let all = versions-all vs (length vs) (omega arith) lists.1 in
-      let list = filter (is_kept (map seen vs)) (merged entry_cmp (singles.0 ∷ all.more)) in
-      (list, parts-listing said clock w None vs chosen singles.0 singles.1 all.more all.are)
+      (merged entry_cmp (singles.0 ∷ all.more), parts-listing said clock w None vs chosen singles.0 singles.1 all.more all.are)

@@ -15,8 +15,6 @@ use Rattle.ics_listing.specs.Listing.{IsListing}
 use Rattle.ics_listing.specs.WindowMeeting.{is_met}
 use Rattle.ics_listing.specs.Merges.{merge_coming}
 use Rattle.ics_series.specs.AgendaParts.{part_coming}
-use Rattle.ics_series.specs.Overridden.{is_kept}
-use Rattle.ics_series.specs.Versions.{seen}
 
 -- an occurrence meets the window and has this day there
 abbrev pub is_today : Clock → Window → ℤ → Entry → Bool
@@ -39,7 +37,7 @@ pub record IsAheadOf (files : List FileSaid) (display : Clock) (w : Window) (day
 
 -- what an agenda has to come
 abbrev pub agenda_coming : Agenda → List Entry
-agenda_coming agenda = filter (is_kept (map seen agenda.overrides.items)) (merge_coming part_coming agenda.merge)
+agenda_coming agenda = merge_coming part_coming agenda.merge
 
 -- what it is of
 abbrev pub scope_of : Days → Scope

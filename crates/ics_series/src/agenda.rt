@@ -1,5 +1,5 @@
 //! The listing of a window.
-ghost use Rattle.std.specs.Prelude.{◌≡◌, ◌≤◌, ◌-◌, ◌^◌, ℕ, List, [], filter, length, map, min, sum_by, true, IfOk};
+ghost use Rattle.std.specs.Prelude.{◌≡◌, ◌≤◌, ◌-◌, ◌^◌, ℕ, List, [], length, map, min, sum_by, true, IfOk};
 ghost use Rattle.std.specs.List.Sorted.{IsSorted};
 ghost use Rattle.std.specs.Option.{option_map};
 ghost use Rattle.std.specs.Ordering.{on};
@@ -13,7 +13,6 @@ ghost use Rattle.ics_listing.specs.Listing.{IsIn, IsListing};
 ghost use Rattle.ics_series.specs.Inner.Marks.{AreMarks};
 ghost use Rattle.ics_series.specs.Meets.{IsListed, IsToCome};
 ghost use Rattle.ics_listing.specs.Merges.{merge_all, merge_coming, merge_holds, merge_looked};
-ghost use Rattle.ics_listing.specs.Inner.MergedLaws.{rises-filter};
 ghost use Rattle.ics_listing.specs.Inner.MergesLaws.{rises-merge};
 ghost use Rattle.ics_series.specs.Occurs.{Occurs};
 ghost use Rattle.ics_series.specs.Overridden.{is_kept};
@@ -45,9 +44,6 @@ use std::alloc::{AllocError, Global};
 #[derive(Drop)]
 pub struct Agenda<'a> {
     merge: Merge<'a, Part<'a>>,
-    // The versions that override an instance. What they replace is left out behind the merge.
-    overrides: Vec<Version<'a>>,
-    ghost in_order: { IsSorted (on (λ v. subject_seen v.subject) subject_cmp) overrides.items },
     ghost apart: { AreApart (merge_all part_sources merge) } by { AreApart-prop (merge_all part_sources merge) },
 }
 
@@ -118,7 +114,7 @@ impl<'a> Agenda<'a> {
             alloc, &mut parts, files, display, chosen, spans, marks, window, after, floor,
         )?;
         let merge = Merge::of_sorted(alloc, parts, 1, window.from)?;
-        Ok(Agenda { merge, overrides })
+        Ok(Agenda { merge })
     }
 
     /// An agenda with nothing to come.
@@ -127,8 +123,17 @@ impl<'a> Agenda<'a> {
         ensures sources { IfOk result (λ agenda. ⟦<Agenda<'a> as Coming>⟧.sources agenda ≡ []) }
     {
         let merge = Merge::new(alloc, Vec::new(alloc))?;
-        let overrides = Vec::new(alloc);
-        Ok(Agenda { merge, overrides })
+        Ok(Agenda { merge })
+    }
+
+    /// Drops what is still to come, and all that is searched for it. It allocates nothing.
+    pub(crate) fn end(&mut self)
+        ensures none { ⟦<Agenda<'a> as Coming>⟧.coming self.new ≡ [] }
+        ensures sources { ⟦<Agenda<'a> as Coming>⟧.sources self.new ≡ [] }
+        ensures holds { merge_holds part_holds self.new.merge ≡ [] }
+        ensures looked { merge_looked part_looked self.new.merge ≡ 0 }
+    {
+        self.merge.end();
     }
 
     /// How many built occurrences are held: the one that was given last, the next one of each feed that
@@ -157,7 +162,7 @@ impl<'a> Agenda<'a> {
 }
 
 impl<'a> Coming for Agenda<'a> {
-    ghost coming = { λ agenda. filter (is_kept (map seen agenda.overrides.items)) (merge_coming part_coming agenda.merge) };
+    ghost coming = { λ agenda. merge_coming part_coming agenda.merge };
 
     ghost sources = { λ agenda. merge_all part_sources agenda.merge };
 
@@ -167,16 +172,10 @@ impl<'a> Coming for Agenda<'a> {
 }
 
 impl<'a> Feed<'a> for Agenda<'a> {
-    ghost rises = { λ agenda. rises-filter entry_cmp (is_kept (map seen agenda.overrides.items))
-        (merge_coming part_coming agenda.merge) (rises-merge part_coming agenda.merge) };
+    ghost rises = { λ agenda. rises-merge part_coming agenda.merge };
 
     fn next(&mut self) -> Result<Option<Occurrence<'a>>, AllocError> {
-        while let Some(occurrence) = self.merge.next()? {
-            if is_kept(&occurrence, &self.overrides) {
-                return Ok(Some(occurrence));
-            }
-        }
-        Ok(None)
+        self.merge.next()
     }
 }
 
@@ -185,6 +184,9 @@ pub(crate) fn is_kept(occurrence: &Occurrence<'_>, overrides: &[Version<'_>]) ->
     requires { IsSorted (on (λ v. subject_seen v.subject) subject_cmp) overrides.now }
     ensures { result ≡ is_kept (map seen overrides.now) (entry_of occurrence.now) }
 {
+    if overrides.is_empty() {
+        return true;
+    }
     let event = occurrence.event;
     let subject = Subject {
         uid: event.uid.as_slice(),

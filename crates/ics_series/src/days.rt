@@ -1,7 +1,7 @@
 //! The listing of a window under each day.
 ghost use Rattle.std.specs.Prelude.{◌≡◌, ◌⊎◌, ◌≤◌, ◌+◌, ◌-◌, ◌^◌, ◌≤ℤ◌, ◌<ℤ◌, ◌-ℤ◌, ℕ, ℤ, pos, false, true, length, min};
 ghost use Rattle.std.specs.Prelude.{List, [], map, IfOk, IfSome, OnErr, OnOk, None};
-ghost use Rattle.std.specs.Prelude.{int_le, if◌then◌else◌};
+ghost use Rattle.std.specs.Prelude.{int_le, int_lt, if◌then◌else◌};
 ghost use Rattle.std.specs.Int.{int_min};
 ghost use Rattle.std.specs.Option.{option_map};
 ghost use Rattle.ics_fields.specs.Days.{IsDayNumber};
@@ -33,7 +33,7 @@ use crate::chosen::chosen;
 use crate::date::{bounds_in, date_at, first_shown, last_shown};
 use crate::marks::add_places;
 use crate::near_days::{DAY, last_near, near_day};
-use crate::occurrence_days::is_on;
+use crate::occurrence_days::is_today;
 use crate::span::{Span, spans};
 use crate::version::Version;
 use ics_file::FileEvents;
@@ -202,7 +202,7 @@ impl<'a> Days<'a> {
             if self.last <= self.today.day {
                 return Ok(None);
             }
-            self.end_day()?;
+            self.end_day();
             self.turn()?;
         }
     }
@@ -246,9 +246,14 @@ impl<'a> Days<'a> {
         ensures err { (list : List OnDay) → IsAhead self.old list → OnErr result (IsAhead self.new list) }
     {
         while let Some(occurrence) = self.today.agenda.next()? {
-            let met = self.window.is_met(&occurrence);
-            let on = is_on(self.display, &self.window, &occurrence, self.today.day);
-            if met & on {
+            let today = is_today(
+                self.display,
+                &self.window,
+                self.bounds,
+                &occurrence,
+                self.today.day,
+            );
+            if today {
                 return Ok(Some(occurrence));
             }
         }
@@ -257,27 +262,21 @@ impl<'a> Days<'a> {
 
     /// Counts what was looked at for a day of which nothing more is to come, and drops its agenda, so that it
     /// is not held while the next day's is made.
-    fn end_day(&mut self) -> Result<(), AllocError>
+    fn end_day(&mut self)
         requires more { self.old.today.day <ℤ self.old.last }
         requires none { agenda_coming self.old.today.agenda ≡ [] }
         ensures none { agenda_coming self.new.today.agenda ≡ [] }
         ensures day { self.new.today.day ≡ self.old.today.day }
         ensures scope { scope_of self.new ≡ scope_of self.old }
         ensures last { self.new.last ≡ self.old.last }
-        ensures counted { OnOk result (self.new.today.looked ≡ min (self.old.today.looked + agenda_looked self.old.today.agenda) (2 ^ 64 - 1)) }
-        ensures dropped { OnOk result (agenda_looked self.new.today.agenda ≡ 0) }
-        ensures kept { OnErr result (self.new.today ≡ self.old.today) }
+        ensures counted { self.new.today.looked ≡ min (self.old.today.looked + agenda_looked self.old.today.agenda) (2 ^ 64 - 1) }
+        ensures dropped { agenda_looked self.new.today.agenda ≡ 0 }
         ensures risen { self.old.today.looked ≤ self.new.today.looked }
         ensures ahead { (list : List OnDay) → IsAhead self.old list → IsAhead self.new list }
     {
-        let agenda = Agenda::ended(self.alloc)?;
         let looked = self.today.looked.saturating_add(self.today.agenda.steps());
-        self.today = Today {
-            day: self.today.day,
-            agenda,
-            looked,
-        };
-        Ok(())
+        self.today.looked = looked;
+        self.today.agenda.end();
     }
 
     /// Goes on to the next day on which something can be. What was looked at for the day is counted.
@@ -299,7 +298,7 @@ impl<'a> Days<'a> {
             self.today.day,
         );
         let near = near_day(self.display, &self.window, self.bounds, day);
-        let key = key_near(self.display, &self.window, day, &self.floor);
+        let key = key_near(self.display, &self.window, self.bounds, day, &self.floor);
         let agenda = Agenda::of(
             self.alloc,
             self.files,
@@ -311,11 +310,8 @@ impl<'a> Days<'a> {
             key,
             floor_of(&self.window),
         )?;
-        self.today = Today {
-            day,
-            agenda,
-            looked: self.today.looked,
-        };
+        self.today.day = day;
+        self.today.agenda = agenda;
         Ok(())
     }
 }
@@ -380,24 +376,44 @@ fn begin<'k>(
     let first = first_shown(display, bounds, window);
     match after {
         Some(after) if first <= after.day => (after.day, Some(&after.key)),
-        _ => (first, key_near(display, window, first, floor)),
+        _ => (first, key_near(display, window, bounds, first, floor)),
     }
 }
 
 /// The key after which all is that is shown under a day. Under a day before that of the window's first instant nothing is shown that began
 /// by then, and under no day what began before, if that is left out.
-fn key_near<'k>(display: &Display, window: &Window, day: i32, floor: &'k Key) -> Option<&'k Key>
-    requires { floor.now.start ≡ window.now.from -ℤ pos 1 }
+fn key_near<'k>(
+    display: &Display,
+    window: &Window,
+    bounds: Bounds,
+    day: i32,
+    floor: &'k Key,
+) -> Option<&'k Key>
+    requires floor { floor.now.start ≡ window.now.from -ℤ pos 1 }
+    requires bounded { HasOffsets (display_clock display.now) window.now bounds }
     ensures shown { (o : Entry) → Meets window.now o → is_on (display_clock display.now) window.now o day ≡ true
         → is_after (option_map (λ key. key_rank key.now) result) o ≡ true }
     ensures floor { (o : Entry) → is_after (option_map (λ key. key_rank key.now) result) o ≡ true → IsStartedBy (floor_of window.now) o }
 {
-    let early = day < date_at(display, window.from);
+    let early = is_early(display, window, bounds, day);
     if window.notstarted | early {
         Some(floor)
     } else {
         None
     }
+}
+
+/// Whether a day is before that of the window's first instant. The clock is not asked where the greater of two offsets, between which it stays,
+/// tells that it is not.
+fn is_early(display: &Display, window: &Window, bounds: Bounds, day: i32) -> bool
+    requires { HasOffsets (display_clock display.now) window.now bounds }
+    ensures { result ≡ int_lt day (date_at (display_clock display.now) window.now.from) }
+{
+    let end = (i64::from(day) + 1) * DAY;
+    if window.from + bounds.most < end {
+        return false;
+    }
+    day < date_at(display, window.from)
 }
 
 /// Where what began before a window is left out, an instant just before it.

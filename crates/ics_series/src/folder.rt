@@ -59,11 +59,12 @@ impl Folder {
         })
     }
 
-    /// Prepares the zones of the files for a window, so that listing it is faster. No listing needs this call, and it changes no answer.
-    pub fn prepare(&mut self, window: &Window)
+    /// Prepares the zones of the files for a window, so that listing it, under each day or not, is faster. No listing needs this call, and it changes
+    /// no answer.
+    pub fn prepare(&mut self, window: &Window, every_day: bool)
         ensures { self.new ≡ self.old }
     {
-        prepare_each(&mut self.files, window);
+        prepare_each(&mut self.files, window, every_day);
     }
 
     /// The occurrences that meet the window, in the order of their keys. With a key, only those of

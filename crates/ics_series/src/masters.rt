@@ -1,16 +1,20 @@
 //! The masters that recur, each of them as a feed.
-ghost use Rattle.std.specs.Prelude.{◌≡◌, ◌<◌, [], ◌∷◌, length, map, slice_get, true, IfOk, MatchOption, Some};
-ghost use Rattle.std.specs.List.{flat_map};
+ghost use Rattle.std.specs.Prelude.{◌≡◌, ◌<◌, ◌≤◌, [], ◌∷◌, false, length, map, slice_get, true, IfOk, MatchOption, None, Some};
+ghost use Rattle.std.specs.List.{filter_map, flat_map};
+ghost use Rattle.std.specs.List.Sorted.{IsPartitionedBy, IsPartitionPoint};
 ghost use Rattle.std.specs.Option.{option_map};
+ghost use Rattle.std.specs.Ordering.{on};
+ghost use Rattle.std.specs.Str.{bytes_eq};
 ghost use Rattle.ics_file.specs.File.{said_by};
 ghost use Rattle.ics_event.specs.declared.event.Event.{Event};
 ghost use Rattle.ics_starts.specs.Clocks.{display_clock};
 ghost use Rattle.ics_listing.specs.After.{is_after};
 ghost use Rattle.ics_listing.specs.Entry.{entry_cmp, key_rank, Entry};
 ghost use Rattle.ics_listing.specs.Listing.{IsListing};
+ghost use Rattle.ics_listing.specs.Rising.{Rises};
 ghost use Rattle.ics_series.specs.Inner.Marks.{AreMarks};
 ghost use Rattle.ics_starts.specs.RuleMarks.{IsBegun, IsMarkOf};
-ghost use Rattle.ics_series.specs.Inner.Masters.{HasLists, HasSources, IsBehind, IsOfVersion, IsSince, IsSourceOf, Recurs};
+ghost use Rattle.ics_series.specs.Inner.Masters.{AreFrom, HasLists, HasSources, IsBehind, IsOfVersion, IsSince, IsSourceOf, Recurs, named_by};
 ghost use Rattle.ics_series.specs.AgendaParts.{part_coming, part_sources};
 ghost use Rattle.ics_starts.specs.SeriesFeed.{series_left, series_of, series_sources, IsSameSeries};
 ghost use Rattle.ics_starts.specs.SingleEvents.{is_single};
@@ -20,24 +24,25 @@ ghost use Rattle.ics_listing.specs.FeedSources.Source.{Of};
 ghost use Rattle.ics_starts.specs.FileZones.{clocks_in};
 ghost use Rattle.ics_series.specs.Inner.Spans.{AreMovedOn, AreSpans, IsMovedOn, IsStartedBy};
 ghost use Rattle.ics_series.specs.Spots.{event_at};
-ghost use Rattle.ics_series.specs.Versions.{seen, AreChosen};
+ghost use Rattle.ics_series.specs.Versions.{seen, subject_cmp, AreChosen};
 
 use crate::marks::{mark_at, put_mark};
 use crate::part::Part;
-use crate::span::{Span, is_out, put_span};
+use crate::span::{Span, first_at, is_out, put_span};
 use crate::version::Version;
 use ics_file::FileEvents;
 use ics_listing::{Coming, Key, Window};
-use ics_starts::{Mark, Series, is_single};
+use ics_starts::{Mark, Replaced, Series, is_single};
 use ics_values::Moment;
 use ics_zone::Display;
 use std::alloc::{AllocError, Global};
 use std::cmp::Ordering;
 
 /// Adds a feed for each version that counts and whose event recurs: its occurrences that meet the
-/// window and, with a key, come after it, whether an override replaces them or not. Those of versions whose
+/// window and, with a key, come after it, but for those that overrides replace. Those of versions whose
 /// spans cannot meet the window are left out. The searches of rules under COUNT go on from their marks, and
-/// all leave a mark where they began. Where nothing of a version meets the window, its span is moved on.
+/// all leave a mark where they began. No feed begins before the span of its version. Where nothing of a version
+/// meets the window, its span is moved on.
 pub(crate) fn push_series<'a>(
     alloc: Global,
     parts: &mut Vec<Part<'a>>,
@@ -73,8 +78,9 @@ pub(crate) fn push_series<'a>(
             continue;
         }
         let mark = mark_at(marks, place);
+        let begin = first_at(spans, place);
         if let Some(mut series) = series_at(
-            alloc, files, display, chosen, place, mark, window, after,
+            alloc, files, display, chosen, place, mark, window, after, begin,
         )? {
             let begun = series.mark();
             move_on(spans, place, floor, &mut series)?;
@@ -86,7 +92,7 @@ pub(crate) fn push_series<'a>(
 }
 
 /// Moves on the span at a place, if there is one and nothing of its version meets the window of the
-/// series. Of a series that begins later than the floor that is not asked.
+/// series. Of a series that begins later than the floor and later than the span that is not asked.
 fn move_on(
     spans: &mut Vec<Span>,
     place: usize,
@@ -98,7 +104,9 @@ fn move_on(
     ensures spans { IsMovedOn (clocks_in series.old.zones) series.old.event.now series.old.window series.old.since
         floor (series_of series.old (series_left series.old)) spans.old.items place spans.new.items }
 {
-    if floor.unwrap_or(Moment::MIN) < series.since() || spans.len() <= place {
+    let begin = first_at(spans, place);
+    let least = floor.unwrap_or(Moment::MIN).max(begin);
+    if least < series.since() || spans.len() <= place {
         return Ok(());
     }
     if series.settle()? {
@@ -112,7 +120,8 @@ fn move_on(
     Ok(())
 }
 
-/// The feed of the version at a place, if its event recurs.
+/// The feed of the version at a place, if its event recurs. It begins at the instant `begin` or later, as all does
+/// that is to come of the version.
 fn series_at<'a>(
     alloc: Global,
     files: &'a [FileEvents],
@@ -122,11 +131,14 @@ fn series_at<'a>(
     mark: Option<Mark>,
     window: Window,
     after: Option<&Key>,
+    begin: Moment,
 ) -> Result<Option<Series<'a>>, AllocError>
     requires chosen { AreChosen (map said_by files.now) (display_clock display.now) chosen.now }
     requires within { place < length chosen.now }
     requires mark { (version : Version) (event : Event) → slice_get chosen.now place ≡ Some version
         → event_at (map said_by files.now) version.spot ≡ Some event → IsMarkOf event mark }
+    requires begin { (version : Version) → slice_get chosen.now place ≡ Some version → AreFrom (map said_by files.now) (display_clock display.now) window
+        (option_map (λ key. key_rank key.now) after) (seen version) begin }
     ensures series { (version : Version) → slice_get chosen.entry.now place ≡ Some version → IfOk result (λ given. MatchOption given
         (Recurs (map said_by files.entry.now) (seen version) → ⊥)
         (λ series. IsListing entry_cmp (IsOfVersion (map said_by files.entry.now) (display_clock display.entry.now) window
@@ -147,8 +159,61 @@ fn series_at<'a>(
     }
     let zones = version.spot.zones(files, display);
     let since = since_of(after, event.uid.as_slice());
-    let series = Series::new(alloc, zones, event, window, since, mark)?;
+    let replaced = replaced_at(alloc, chosen, place)?;
+    let series = Series::new(
+        alloc,
+        zones,
+        event,
+        window,
+        since.max(begin),
+        mark,
+        replaced,
+    )?;
     Ok(Some(series))
+}
+
+/// The instances of the master at a place that overrides replace. These stand behind it.
+fn replaced_at(alloc: Global, chosen: &[Version<'_>], place: usize) -> Result<Replaced, AllocError>
+    requires rises { Rises (on (λ l. l.subject) subject_cmp) (map seen chosen.now) }
+    requires master { (version : Version) → slice_get chosen.now place ≡ Some version → version.subject.recurrence ≡ None }
+    requires within { place < length chosen.now }
+    ensures { (version : Version) → slice_get chosen.entry.now place ≡ Some version
+        → IfOk result (λ replaced. replaced.instants.items ≡ named_by version.subject.uid.now (map seen chosen.entry.now)) }
+{
+    let uid = chosen[place].subject.uid;
+    let behind = &chosen[place + 1..];
+    let instants = recurrences(alloc, &behind[..count_of(uid, behind)])?;
+    Ok(Replaced::new(instants))
+}
+
+/// How many versions at the front have a UID.
+fn count_of(uid: &[u8], versions: &[Version<'_>]) -> usize
+    requires { IsPartitionedBy (λ v. bytes_eq v.subject.uid.now uid.now) versions.now }
+    ensures within { result ≤ length versions.now }
+    ensures parts { IsPartitionPoint (λ v. bytes_eq v.subject.uid.now uid.now ≡ true) (λ v. bytes_eq v.subject.uid.now uid.now ≡ false)
+        versions.now result }
+{
+    let Some(first) = versions.first() else {
+        return 0;
+    };
+    // Most masters have no overrides.
+    if first.subject.uid != uid {
+        return 0;
+    }
+    versions.partition_point(|version| version.subject.uid == uid)
+}
+
+/// The instants of the instances that versions override.
+fn recurrences(alloc: Global, versions: &[Version<'_>]) -> Result<Vec<Moment>, AllocError>
+    ensures { IfOk result (λ instants. instants.items ≡ filter_map (λ l. l.subject.recurrence) (map seen versions.entry.now)) }
+{
+    let mut instants = Vec::new(alloc);
+    for version in versions {
+        if let Some(moment) = version.subject.recurrence {
+            instants.push(moment)?;
+        }
+    }
+    Ok(instants)
 }
 
 /// The instant from which on the occurrences of a master with this UID come after the key.

@@ -1,12 +1,12 @@
 //! Preparing zones for a listing.
 ghost use Rattle.std.specs.Prelude.{◌≡◌};
 
-use ics_event::{Event, Length};
-use ics_fields::{Parts, Until};
+use ics_event::{Event, Length, Rdate, Time};
+use ics_fields::Until;
 use ics_file::FileEvents;
 use ics_listing::{Window, local_of};
 use ics_starts::is_single;
-use ics_values::Moment;
+use ics_values::{Duration, Moment};
 use ics_zone::Zone;
 
 const DAY: i64 = 86_400;
@@ -18,26 +18,40 @@ const SHORT: i64 = 120 * DAY;
 const LATE: i64 = 4 * DAY;
 
 /// Where an event asks for the offsets of its zone: near an instant, if that is before `from`, and from there on up to another. Before all these some
-/// days about an earlier instant, if there is one.
+/// days about an earlier instant, if there is one, and last all days of a span, if it is not empty.
 #[derive(Clone, Copy, PartialEq)]
 struct Asked {
     begun: Moment,
     near: Moment,
     from: Moment,
     to: Moment,
+    through: (Moment, Moment),
 }
 
-/// Prepares the zones that the events of these files name for a window. It makes a listing faster and changes no answer.
-pub(crate) fn prepare_each(files: &mut [FileEvents], window: &Window)
+/// Prepares the zones that the events of these files name for a window, which may be listed under each day. It makes a listing faster and changes no
+/// answer.
+pub(crate) fn prepare_each(files: &mut [FileEvents], window: &Window, every_day: bool)
     ensures { files.new ≡ files.old }
 {
     for k in 0..files.len() {
-        prepare_named(&mut files[k], window);
+        prepare_file(&mut files[k], window, every_day);
     }
 }
 
+/// Prepares the zones of a file, if it has any.
+fn prepare_file(file: &mut FileEvents, window: &Window, every_day: bool)
+    ensures { file.new ≡ file.old }
+{
+    if file.zones.is_empty() {
+        return;
+    }
+    prepare_named(file, window, every_day);
+    note_named(file, every_day);
+    learn_each(file);
+}
+
 /// Prepares the zones that the events of a file name. Most events ask what the one before them asks.
-fn prepare_named(file: &mut FileEvents, window: &Window)
+fn prepare_named(file: &mut FileEvents, window: &Window, every_day: bool)
     ensures { file.new ≡ file.old }
 {
     let mut last = None;
@@ -45,57 +59,168 @@ fn prepare_named(file: &mut FileEvents, window: &Window)
         let Some(index) = file.events[k].start.zone else {
             continue;
         };
-        let asked = (index, asked_by(&file.events[k], window));
+        let asked = (index, asked_by(&file.events[k], window, every_day));
         if last == Some(asked) {
             continue;
         }
         last = Some(asked);
         if let Some(zone) = file.zones.get_mut(index as usize) {
             prepare(zone, asked.1);
+            hold_through(zone, asked.1.through);
         }
     }
 }
 
-/// Where an event asks in a window. In a short one all that may be listed is near its ends. In a long one an event that starts once
-/// asks near its start, and one that recurs from its start on, if that is not before the window. It also asks near DTSTART if it has DTEND,
-/// since both tell how long each occurrence lasts.
-fn asked_by(event: &Event, window: &Window) -> Asked {
-    let begun = begun_before(event, window);
-    let (from, to) = (window.from, window.to);
-    if to <= from.saturating_add(SHORT) {
-        return Asked {
-            begun,
-            near: from,
-            from,
-            to,
-        };
-    }
-    let near = local_of(event.start.stamp).seconds();
-    if is_single(event) {
-        return Asked {
-            begun,
-            near,
-            from: Moment::MAX,
-            to,
-        };
-    }
-    let from = from.max(near);
-    let to = to.min(recurs_to(event));
-    let near = if matches!(event.length, Length::Until(_)) {
-        near
-    } else {
-        from
-    };
-    Asked {
-        begun,
-        near,
-        from,
-        to,
+/// The zones of a file take note of the times that its events ask for again and again.
+fn note_named(file: &mut FileEvents, every_day: bool)
+    ensures { file.new ≡ file.old }
+{
+    for k in 0..file.events.len() {
+        let event = &file.events[k];
+        if every_day || asks_length(event) {
+            note_length(&mut file.zones, event);
+        }
+        if every_day {
+            note_rdates(&mut file.zones, event);
+            note_exdates(&mut file.zones, event);
+        }
     }
 }
 
-/// Whether a rule can give several starts a day.
-fn is_dense(parts: &Parts) -> bool {
+/// Whether the length of an event is asked for with each of its starts: if it recurs several times a day, or has DTEND.
+fn asks_length(event: &Event) -> bool {
+    is_dense(event) || (matches!(event.length, Length::Until(_)) && !is_single(event))
+}
+
+/// The zones of a file find the instants of the times that they have noted.
+fn learn_each(file: &mut FileEvents)
+    ensures { file.new ≡ file.old }
+{
+    for k in 0..file.zones.len() {
+        if let Some(zone) = file.zones.get_mut(k) {
+            zone.learn();
+        }
+    }
+}
+
+/// The zones take note of a time, if it has one, and some seconds more.
+fn note(zones: &mut [Zone], time: Time, more: i64)
+    ensures { zones.new ≡ zones.old }
+{
+    let Some(index) = time.zone else {
+        return;
+    };
+    let place = index as usize;
+    if place < zones.len() {
+        let seconds = local_of(time.stamp).seconds().saturating_add(more);
+        zones[place].note_again(seconds);
+    }
+}
+
+/// The zones take note of DTSTART and of what tells the length of an event.
+fn note_length(zones: &mut [Zone], event: &Event)
+    ensures { zones.new ≡ zones.old }
+{
+    match event.length {
+        Length::Open => note(zones, event.start, 0),
+        Length::Until(end) => {
+            note(zones, event.start, 0);
+            note(zones, end, 0);
+        }
+        Length::Lasting(length) => {
+            note(zones, event.start, 0);
+            note(zones, event.start, days_of(length));
+        }
+    }
+}
+
+/// The zones take note of the RDATEs of an event, and of where occurrences at them end.
+fn note_rdates(zones: &mut [Zone], event: &Event)
+    ensures { zones.new ≡ zones.old }
+{
+    let lasting = match event.length {
+        Length::Open | Length::Until(_) => 0,
+        Length::Lasting(length) => days_of(length),
+    };
+    for rdate in &event.rdates {
+        match *rdate {
+            Rdate::At(time) => {
+                note(zones, time, 0);
+                note(zones, time, lasting);
+            }
+            Rdate::Span(start, Length::Until(end)) => {
+                note(zones, start, 0);
+                note(zones, end, 0);
+            }
+            Rdate::Span(start, Length::Lasting(length)) => {
+                note(zones, start, 0);
+                note(zones, start, days_of(length));
+            }
+            Rdate::Span(start, Length::Open) => note(zones, start, 0),
+        }
+    }
+}
+
+/// The zones take note of the EXDATEs of an event.
+fn note_exdates(zones: &mut [Zone], event: &Event)
+    ensures { zones.new ≡ zones.old }
+{
+    for time in &event.exdates {
+        note(zones, *time, 0);
+    }
+}
+
+/// The seconds of the days of a duration. The count stops at the greatest `i64`.
+fn days_of(length: Duration) -> i64 {
+    let days = i64::try_from(length.days).unwrap_or(i64::MAX);
+    days.saturating_mul(DAY)
+}
+
+/// The seconds of a duration, if each day has 86,400. The count stops at the greatest `i64`.
+fn seconds_of(length: Duration) -> i64 {
+    let seconds = i64::try_from(length.seconds).unwrap_or(i64::MAX);
+    days_of(length).saturating_add(seconds)
+}
+
+/// Where an event asks in a window.
+fn asked_by(event: &Event, window: &Window, every_day: bool) -> Asked {
+    let (near, from, to) = asked_between(event, window, every_day);
+    Asked {
+        begun: begun_before(event, window),
+        near,
+        from,
+        to,
+        through: asked_through(event, window),
+    }
+}
+
+/// The instants near which, from which on and up to which it asks. In a short window all that may be listed once is near its ends. In a long one, or
+/// under each day, an event that starts once asks near its start; one that recurs asks from its start on, if that is not before the window. It also
+/// asks near DTSTART if it has DTEND, since both tell how long each occurrence lasts.
+fn asked_between(event: &Event, window: &Window, every_day: bool) -> (Moment, Moment, Moment) {
+    let (from, to) = (window.from, window.to);
+    let first = local_of(event.start.stamp).seconds();
+    let is_long = to > from.saturating_add(SHORT);
+    if is_single(event) & (is_long | every_day) {
+        return (first, Moment::MAX, to);
+    }
+    if !is_long {
+        return (from, from, to);
+    }
+    let from = from.max(first);
+    let to = to.min(recurs_to(event));
+    if matches!(event.length, Length::Until(_)) {
+        return (first, from, to);
+    }
+    (from, from, to)
+}
+
+/// Whether an event has a rule that can give several starts a day.
+fn is_dense(event: &Event) -> bool {
+    let Some(rule) = &event.rule else {
+        return false;
+    };
+    let parts = rule.parts();
     parts.frequency.is_finer_than_daily()
         || !parts.hours.is_empty()
         || !parts.minutes.is_empty()
@@ -105,15 +230,30 @@ fn is_dense(parts: &Parts) -> bool {
 /// About when an occurrence can begin at first that is asked for in a window, since it lasts so long, by a rule that can give several starts a
 /// day. Of other rules only few are asked for.
 fn begun_before(event: &Event, window: &Window) -> Moment {
-    match (&event.rule, event.length) {
-        (Some(rule), Length::Lasting(length)) if is_dense(rule.parts()) => {
-            let days = i64::try_from(length.days).unwrap_or(i64::MAX);
-            let seconds = i64::try_from(length.seconds).unwrap_or(i64::MAX);
-            let lasting = days.saturating_mul(DAY).saturating_add(seconds);
+    match event.length {
+        Length::Lasting(length) if is_dense(event) => {
+            let lasting = seconds_of(length);
             window.from.saturating_sub(lasting).saturating_sub(LATE)
         }
         _ => Moment::MAX,
     }
+}
+
+/// From when to when an event that recurs asks in a window, if it lasts long or the window does: from the first start that can reach it to the last end
+/// of one in it. Else an empty span.
+fn asked_through(event: &Event, window: &Window) -> (Moment, Moment) {
+    let lasting = match event.length {
+        Length::Open | Length::Until(_) => 0,
+        Length::Lasting(length) => seconds_of(length),
+    };
+    let long = lasting.max(window.to.saturating_sub(window.from));
+    if long < SHORT || is_single(event) {
+        return (Moment::MAX, Moment::MIN);
+    }
+    let first = local_of(event.start.stamp).seconds();
+    let from = window.from.saturating_sub(lasting).saturating_sub(LATE);
+    let to = window.to.saturating_add(lasting).saturating_add(LATE);
+    (from.max(first), to)
 }
 
 /// An instant after the starts by a rule with UNTIL: the third midnight after that day. Without UNTIL it is the last instant.
@@ -142,5 +282,14 @@ fn prepare(zone: &mut Zone, asked: Asked)
     }
     if asked.from < asked.to {
         zone.reach_between(asked.from, asked.to);
+    }
+}
+
+/// Holds the spans of a zone that a few may tell, if this is not empty.
+fn hold_through(zone: &mut Zone, through: (Moment, Moment))
+    ensures { zone.new ≡ zone.old }
+{
+    if through.0 < through.1 {
+        zone.reach_through(through.0, through.1);
     }
 }

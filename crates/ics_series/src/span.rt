@@ -2,7 +2,7 @@
 ghost use Rattle.std.specs.Prelude.{◌≡◌, map, IfOk, IsSome};
 ghost use Rattle.ics_file.specs.File.{said_by};
 ghost use Rattle.ics_starts.specs.Clocks.{display_clock};
-ghost use Rattle.ics_series.specs.Inner.Spans.{can_meet, is_out, span_at, IsSpanPut};
+ghost use Rattle.ics_series.specs.Inner.Spans.{can_meet, first_at, is_out, span_at, IsSpanPut};
 ghost use Rattle.ics_series.specs.Spots.{event_at};
 ghost use Rattle.ics_series.specs.Versions.{seen, AreChosen};
 
@@ -95,5 +95,15 @@ pub(crate) fn is_out(spans: &[Span], place: usize, window: &Window) -> bool
     match spans.get(place) {
         None => false,
         Some(span) => !span.can_meet(window),
+    }
+}
+
+/// The instant with which the span at a place begins, if there is one there, and else the first of all.
+pub(crate) fn first_at(spans: &[Span], place: usize) -> Moment
+    ensures { result ≡ first_at spans.now place }
+{
+    match spans.get(place) {
+        None => Moment::MIN,
+        Some(span) => span.first,
     }
 }

@@ -1,20 +1,24 @@
 -- Locals at which nothing begins that can meet the window may be passed over.
-use Rattle.std.proofs.Common.{◌≡◌, ◌⊎◌, ◌≤ℤ◌, ◌<ℤ◌, ◌-ℤ◌, ℕ, ℤ, Bool, ◌&&◌, ◌∙◌, true, false, not, int_le, if◌then◌else◌}
-use Rattle.std.proofs.Common.{pos, MatchOption, Option, Some, None, ⊎_elim, sym, ap, subst, refl, arith}
+use Rattle.std.proofs.Common.{◌≡◌, ◌⊎◌, ◌≤ℤ◌, ◌<ℤ◌, ◌-ℤ◌, ℕ, ℤ, Bool, ◌&&◌, ◌||◌, ◌∙◌, true, false, not, int_le, if◌then◌else◌}
+use Rattle.std.proofs.Common.{pos, [], MatchOption, Option, Some, None, ⊎_elim, sym, ap, subst, refl, arith}
+use Rattle.std.specs.Int.{int_max}
 use Rattle.std.proofs.lemmas.Bool.{and_parts}
 use Rattle.std.proofs.lemmas.Int.{int_max_is, ints}
 use Rattle.ics_event.specs.declared.event.Event.{Event}
 use Rattle.ics_values.specs.declared.duration.Duration.{Duration}
+use Rattle.ics_zone.specs.declared.bounds.Bounds.{Bounds}
 use Rattle.ics_zone.specs.declared.stretch.Stretch.{Stretch}
 use Rattle.ics_values.specs.declared.time.Rdate.TheVariants.{At}
 use Rattle.ics_fields.specs.declared.local.Local.{Local}
 use Rattle.ics_starts.specs.declared.rule_starts.RuleStarts.{RuleStarts}
 use Rattle.ics_starts.specs.declared.series.Series.{Series}
+use Rattle.ics_starts.specs.declared.zones.FileZones.{FileZones}
 use Rattle.ics_listing.specs.declared.start.Start.{Start}
-use Rattle.ics_starts.specs.Clocks.{clock_of, instant, IsStretched}
-use Rattle.ics_listing.specs.FileClocks.{Clock, Clocks}
+use Rattle.ics_listing.specs.declared.window.Window.{Window}
+use Rattle.ics_starts.specs.Clocks.{clock_of, instant, IsBounded, IsStretched}
+use Rattle.ics_listing.specs.FileClocks.{Clock}
 use Rattle.ics_listing.specs.Entry.{Entry}
-use Rattle.ics_starts.specs.Exclusions.{is_excluded}
+use Rattle.ics_starts.specs.Exclusions.{is_among, is_excluded}
 use Rattle.ics_starts.specs.FileZones.{clocks_in}
 use Rattle.ics_starts.specs.Finish.{end_of, AreLasting, AreOver}
 use Rattle.ics_starts.specs.Found.{first_met, start_at}
@@ -25,47 +29,53 @@ use Rattle.ics_starts.specs.Meeting.{entry_from}
 use Rattle.ics_listing.specs.WindowMeeting.{is_met}
 use Rattle.ics_starts.specs.RuleFeed.{IsAmid, IsEarlier}
 use Rattle.ics_starts.specs.RuleStarts.{local_numbered, moment_numbered}
-use Rattle.ics_starts.specs.SeriesStarts.{first_given, is_wanted, wanted_by}
+use Rattle.ics_starts.specs.SeriesStarts.{is_left_out, is_wanted, wanted_by, IsFirstGiven}
 use Rattle.ics_listing.specs.StartTimes.{time_at}
 use Rattle.ics_starts.proofs.MeetsLemmas.{is_met-meets, less-le}
 use Rattle.ics_starts.proofs.PassedLemmas.{by-test, own-of, IsTest}
 use Rattle.ics_starts.proofs.SoughtLemmas.{met-from}
 use Rattle.ics_zone.proofs.Cases.{int_le_true, true_int_le}
 
--- A series, and an instant at which a start by the rule can first give an occurrence, or one before it.
-module _ (s : Series) (to : ℤ) (first : to ≤ℤ first_given (clocks_in s.zones) s.window s.event.now s.since) where
-  abbrev clocks : Clocks
-  clocks = clocks_in s.zones
+-- What is wanted of the rule is not before the first instant at which an event of this length can meet the window, less the seconds that it can end late.
+module _ (zones : FileZones) (w : Window) (event : Event) (since : ℤ) where
+  pub given-from : (b : Bounds) → IsBounded (clock_of (clocks_in zones) event.start) b → IsFirstGiven (clocks_in zones) w event since
+      (int_max (first_met (clocks_in zones) w event -ℤ (if w.notstarted then pos 0 else rule_late b event)) since)
+  given-from b bounded local e =
+      let clocks = clocks_in zones in
+      let o = entry_from clocks event (At (time_at event.start local)) in
+      let parts = and_parts (int_le since o.start) (is_met w o && not (is_left_out clocks event [] o.start)) e in
+      let met = and_parts (is_met w o) (not (is_left_out clocks event [] o.start)) parts.1 in
+      let from = met-from zones w event b bounded local (is_met-meets w o met.0) w.notstarted refl in
+      let late = if w.notstarted then pos 0 else rule_late b event in
+      omega (arith, ints, from, int_le_true since o.start parts.0, int_max_is (first_met clocks w event -ℤ late) since)
 
-  abbrev event : Event
-  event = s.event.now
+  pub given-since : IsFirstGiven (clocks_in zones) w event since since
+  given-since local e =
+      let o = entry_from (clocks_in zones) event (At (time_at event.start local)) in
+      int_le_true since o.start (and_parts (int_le since o.start) (is_met w o && not (is_left_out (clocks_in zones) event [] o.start)) e).0
 
-  abbrev own-entry : Local → Entry
-  own-entry local = entry_from clocks event (At (time_at event.start local))
+  -- so of an earlier one
+  pub given-sooner : {t u : ℤ} → u ≤ℤ t → IsFirstGiven (clocks_in zones) w event since t → IsFirstGiven (clocks_in zones) w event since u
+  given-sooner l first local e = omega (arith, ints, l, first local e)
 
-  -- what is wanted of the rule is not before it
-  wanted-late : (local : Local) → is_wanted clocks s.window event s.since (own-entry local) ≡ true → to ≤ℤ instant clocks (time_at event.start local)
-  wanted-late local e =
-      let o = own-entry local in
-      let parts = and_parts (int_le s.since o.start) (is_met s.window o && not (is_excluded clocks event o.start)) e in
-      let met = and_parts (is_met s.window o) (not (is_excluded clocks event o.start)) parts.1 in
-      let meets = is_met-meets s.window o met.0 in
-      let from = met-from s.zones s.window event local meets s.window.notstarted refl in
-      let since = int_le_true s.since o.start parts.0 in
-      let late = if s.window.notstarted then pos 0 else rule_late event in
-      omega (arith, ints, first, from, since, int_max_is (first_met clocks s.window event -ℤ late) s.since)
+-- what is wanted is so whatever others replace
+wanted-all : (a b c d : Bool) → (a && (b && not (c || d))) ≡ true → (a && (b && not (c || false))) ≡ true
+wanted-all a b c d e = grind arith
 
-  early-unwanted : (local : Local) → int_le to (instant clocks (time_at event.start local)) ≡ false
-      → wanted_by clocks s.window event s.since (start_at clocks event local) ≡ None
+-- A series, and an instant before which no start by the rule gives an occurrence.
+module _ (s : Series) (to : ℤ) (first : IsFirstGiven (clocks_in s.zones) s.window s.event.now s.since to) where
+  early-unwanted : (local : Local) → int_le to (instant (clocks_in s.zones) (time_at s.event.now.start local)) ≡ false
+      → wanted_by (clocks_in s.zones) s.window s.event.now s.since s.replaced.instants.items (start_at (clocks_in s.zones) s.event.now local) ≡ None
   early-unwanted local early =
-      by-test (is_wanted clocks s.window event s.since (own-entry local))
-      (λ e.
-      let late = true_int_le to (instant clocks (time_at event.start local)) (wanted-late local e) in
-      absurd cc)
-      (λ e. ap (λ b. if b then Some (own-entry local) else None) e)
+      let o = entry_from (clocks_in s.zones) s.event.now (At (time_at s.event.now.start local)) in
+      let all = wanted-all (int_le s.since o.start) (is_met s.window o) (is_excluded (clocks_in s.zones) s.event.now o.start)
+      (is_among s.replaced.instants.items o.start) in
+      by-test (is_wanted (clocks_in s.zones) s.window s.event.now s.since s.replaced.instants.items o)
+      (λ e. let late = true_int_le to (instant (clocks_in s.zones) (time_at s.event.now.start local)) (first local (all e)) in absurd cc)
+      (λ e. ap (λ b. if b then Some o else None) e)
 
 -- No start that is known is earlier than it.
-module _ (s : Series) (to : ℤ) (first : to ≤ℤ first_given (clocks_in s.zones) s.window s.event.now s.since)
+module _ (s : Series) (to : ℤ) (first : IsFirstGiven (clocks_in s.zones) s.window s.event.now s.since to)
     (listed : (t : Start) → IsIn t (listed_left s.listed) → to ≤ℤ t.moment) where
   past-out : (a : RuleStarts) → s.rule_starts ≡ Some a → (n : ℕ) → IsEarlier to a n → int_le to (moment_numbered (clocks_in s.zones) s.event.now n) ≡ false
   past-out a is n past =
@@ -74,12 +84,12 @@ module _ (s : Series) (to : ℤ) (first : to ≤ℤ first_given (clocks_in s.zon
       (subst (λ t. t <ℤ to) (λ i. moment_numbered (clocks_in (own.zones_are i)) (own.event_is i) n) past)
 
   unwanted : (t : Start) → IsIn t (listed_left s.listed) ⊎ ((n : ℕ) × (t ≡ start_at (clocks_in s.zones) s.event.now (local_numbered n)))
-      → int_le to t.moment ≡ false → wanted_by (clocks_in s.zones) s.window s.event.now s.since t ≡ None
+      → int_le to t.moment ≡ false → wanted_by (clocks_in s.zones) s.window s.event.now s.since s.replaced.instants.items t ≡ None
   unwanted t from e =
       ⊎_elim
       (λ m. let late = true_int_le to t.moment (listed t m) in absurd cc)
       (λ by.
-      subst (λ (x : Start). wanted_by (clocks_in s.zones) s.window s.event.now s.since x ≡ None) (sym by.1)
+      subst (λ (x : Start). wanted_by (clocks_in s.zones) s.window s.event.now s.since s.replaced.instants.items x ≡ None) (sym by.1)
       (early-unwanted s to first (local_numbered by.0) (subst (λ (x : Start). int_le to x.moment ≡ false) by.1 e)))
       from
 
@@ -100,10 +110,11 @@ amid-parts false y e = let no : true ≡ false = e in absurd cc
 -- By the rule nothing is given from one instant on and before another, and no start that is known is there.
 module _ (s : Series) (from to : ℤ)
     (none : (local : Local) → let t = instant (clocks_in s.zones) (time_at s.event.now.start local) in from ≤ℤ t → t <ℤ to
-    → wanted_by (clocks_in s.zones) s.window s.event.now s.since (start_at (clocks_in s.zones) s.event.now local) ≡ None)
+    → wanted_by (clocks_in s.zones) s.window s.event.now s.since s.replaced.instants.items (start_at (clocks_in s.zones) s.event.now local) ≡ None)
     (apart : (t : Start) → IsIn t (listed_left s.listed) → from ≤ℤ t.moment → to ≤ℤ t.moment) where
   amid-unwanted : (t : Start) → IsIn t (listed_left s.listed) ⊎ ((n : ℕ) × (t ≡ start_at (clocks_in s.zones) s.event.now (local_numbered n)))
-      → not (int_le from t.moment && not (int_le to t.moment)) ≡ false → wanted_by (clocks_in s.zones) s.window s.event.now s.since t ≡ None
+      → not (int_le from t.moment && not (int_le to t.moment)) ≡ false
+      → wanted_by (clocks_in s.zones) s.window s.event.now s.since s.replaced.instants.items t ≡ None
   amid-unwanted t by e =
       let parts = amid-parts (int_le from t.moment) (int_le to t.moment) e in
       let late = int_le_true from t.moment parts.0 in
@@ -115,7 +126,7 @@ module _ (s : Series) (from to : ℤ)
       (λ k.
       let at = ap (λ (x : Start). x.moment) k.1 in
       let before = le-less to t.moment parts.1 in
-      subst (λ (x : Start). wanted_by (clocks_in s.zones) s.window s.event.now s.since x ≡ None) (sym k.1)
+      subst (λ (x : Start). wanted_by (clocks_in s.zones) s.window s.event.now s.since s.replaced.instants.items x ≡ None) (sym k.1)
       (none (local_numbered k.0) (omega (arith, ints, at, late)) (omega (arith, ints, at, before))))
       by
 
@@ -131,7 +142,7 @@ module _ (s : Series) (from to : ℤ)
   }
 
 -- so of those that are too early to meet the window
-pub leapt-test : (s : Series) (from to : ℤ) → to ≤ℤ first_given (clocks_in s.zones) s.window s.event.now s.since
+pub leapt-test : (s : Series) (from to : ℤ) → IsFirstGiven (clocks_in s.zones) s.window s.event.now s.since to
     → ((t : Start) → IsIn t (listed_left s.listed) → from ≤ℤ t.moment → to ≤ℤ t.moment) → IsTest s (IsAmid from to)
     (λ t. not (int_le from t && not (int_le to t)))
 leapt-test s from to first apart =
@@ -145,11 +156,12 @@ module _ (s : Series) (duration : Duration) (lasting : AreLasting (clocks_in s.z
   entry local = entry_from (clocks_in s.zones) s.event.now (At (time_at s.event.now.start local))
 
   over-unmet : (local : Local) → from ≤ℤ (entry local).start → (entry local).start <ℤ to
-      → is_wanted (clocks_in s.zones) s.window s.event.now s.since (entry local) ≡ true → ⊥
+      → is_wanted (clocks_in s.zones) s.window s.event.now s.since s.replaced.instants.items (entry local) ≡ true → ⊥
   over-unmet local late early e =
       let o = entry local in
-      let parts = and_parts (int_le s.since o.start) (is_met s.window o && not (is_excluded (clocks_in s.zones) s.event.now o.start)) e in
-      let met = and_parts (is_met s.window o) (not (is_excluded (clocks_in s.zones) s.event.now o.start)) parts.1 in
+      let parts = and_parts (int_le s.since o.start) (is_met s.window o
+      && not (is_left_out (clocks_in s.zones) s.event.now s.replaced.instants.items o.start)) e in
+      let met = and_parts (is_met s.window o) (not (is_left_out (clocks_in s.zones) s.event.now s.replaced.instants.items o.start)) parts.1 in
       let gone = over o.start late early in
       let end = lasting local in
       let last = int_max_is o.start (end_of (clocks_in s.zones) s.event.now (At (time_at s.event.now.start local))) in
@@ -157,14 +169,21 @@ module _ (s : Series) (duration : Duration) (lasting : AreLasting (clocks_in s.z
       (is_met-meets s.window o met.0).lasting
 
   over-unwanted : (local : Local) → let t = instant (clocks_in s.zones) (time_at s.event.now.start local) in from ≤ℤ t → t <ℤ to
-      → wanted_by (clocks_in s.zones) s.window s.event.now s.since (start_at (clocks_in s.zones) s.event.now local) ≡ None
+      → wanted_by (clocks_in s.zones) s.window s.event.now s.since s.replaced.instants.items (start_at (clocks_in s.zones) s.event.now local) ≡ None
   over-unwanted local late early =
-      by-test (is_wanted (clocks_in s.zones) s.window s.event.now s.since (entry local)) (λ e. absurd (over-unmet local late early e))
+      by-test (is_wanted (clocks_in s.zones) s.window s.event.now s.since s.replaced.instants.items (entry local)) (λ e. absurd (over-unmet local late early e))
       (λ e. ap (λ b. if b then Some (entry local) else None) e)
 
   pub over-test : ((t : Start) → IsIn t (listed_left s.listed) → from ≤ℤ t.moment → to ≤ℤ t.moment) → IsTest s (IsAmid from to)
       (λ t. not (int_le from t && not (int_le to t)))
   over-test apart = amid-test s from to over-unwanted apart
+
+-- The offsets between which the clock of a series's rule stays are those of the clock of DTSTART.
+pub own-bounds : (s : Series) (b : Bounds) (a : RuleStarts) → s.rule_starts ≡ Some a → IsBounded (clock_of (clocks_in a.zones) a.event.now.start) b
+    → IsBounded (clock_of (clocks_in s.zones) s.event.now.start) b
+own-bounds s b a is h =
+    let own = own-of s a is in
+    subst (λ (clock : Clock). IsBounded clock b) (λ i. clock_of (clocks_in (own.zones_are i)) (own.event_is i).start) h
 
 -- The stretch that is known to the rule of a series is one of the clock of DTSTART.
 pub own-stretch : (s : Series) (stretch : Stretch) → MatchOption s.rule_starts ((clock : Clock) → IsStretched clock stretch)

@@ -22,7 +22,8 @@ use Rattle.ics_zone.specs.Inner.ZoneBounds.{said_moment_near, said_offset_near}
 use Rattle.ics_zone.specs.declared.display.Display.{Display}
 use Rattle.ics_starts.specs.declared.zones.FileZones.{FileZones}
 use Rattle.ics_listing.specs.FileClocks.{Clock, Clocks, day_of}
-use Rattle.ics_starts.specs.Clocks.{clock_at, clock_by, display_clock, instant, utc_clock, zone_clock, local_at}
+use Rattle.ics_starts.specs.Clocks.{clock_at, clock_by, display_clock, instant, utc_clock, zone_clock, local_at, IsBounded}
+use Rattle.ics_zone.specs.declared.bounds.Bounds.{Bounds}
 use Rattle.ics_fields.specs.Locals.{local_seconds, whole_days, midnight}
 use Rattle.ics_starts.specs.Finish.{end_by, seconds_by, days_lasting, later_by, seconds_lasting}
 use Rattle.ics_starts.specs.FileZones.{clocks_in, EndsNear}
@@ -161,6 +162,20 @@ pub day-written : (s : Stamp) → midnight (day_of s) ≤ℤ stamp_seconds s
 day-written (Date day) = omega (arith, ints)
 day-written _ = omega (arith, ints)
 
+-- two offsets between which a clock stays differ by less than four days
+pub bounds-apart : {clock : Clock} (b : Bounds) → IsBounded clock b → (pos 0 ≤ℤ (b.most -ℤ b.least)) × ((b.most -ℤ b.least) ≤ℤ whole_days 4)
+bounds-apart b h =
+    let off = h.offsets (pos 0) in
+    (omega (arith, ints, off.0, off.1), omega (arith, ints, h.least_short.0, h.most_short.1))
+
+-- a duration leads no more past its seconds than they differ by
+pub later-bounded : (clock : Clock) (b : Bounds) (duration : Duration) (t : ℤ) → IsBounded clock b
+    → later_by clock duration t ≤ℤ ((t +ℤ pos (duration.days * 86_400 + duration.seconds)) +ℤ (b.most -ℤ b.least))
+later-bounded clock b duration t h =
+    let off = h.offsets t in
+    let far = h.moments (local_at clock t +ℤ pos (duration.days * 86_400)) in
+    omega (arith, ints, off.1, far.1)
+
 module _ (zones : FileZones) where
   -- a duration leads less than four days past its seconds
   later-bound : (zone : Option ℕ) (s : Stamp) (duration : Duration) (t : ℤ)
@@ -173,7 +188,7 @@ module _ (zones : FileZones) where
       omega (arith, ints, off.0, off.1, far.0, far.1)
 
   -- the end lies less than four days past the start and the event's seconds
-  pub end-bound : (first given : Time) (s : Stamp) (length : Length)
+  end-bound : (first given : Time) (s : Stamp) (length : Length)
       → end_by (clocks_in zones) first given s length <ℤ ((instant (clocks_in zones) given +ℤ seconds_by (clocks_in zones) first s length) +ℤ whole_days 4)
   end-bound first given (Date day) length =
       let a = moment_near zones.display.now (midnight (day_of given.stamp +ℤ days_lasting day length)) in

@@ -1,5 +1,5 @@
 -- Locals at which all is removed may be passed over.
-use Rattle.std.proofs.Common.{◌≡◌, ℕ, ℤ, pos, ◌-ℤ◌, Bool, ◌&&◌, true, false, not, if◌then◌else◌, Some, None, sym, ◌∙◌, ap, subst, arith, int_le}
+use Rattle.std.proofs.Common.{◌≡◌, ℕ, ℤ, pos, ◌-ℤ◌, Bool, ◌&&◌, ◌||◌, true, false, not, if◌then◌else◌, Some, None, sym, ◌∙◌, ap, subst, arith, int_le}
 use Rattle.std.proofs.lemmas.Bool.{or_right}
 use Rattle.ics_event.specs.declared.event.Event.{Event}
 use Rattle.ics_fields.specs.Locals.{year_number}
@@ -49,13 +49,13 @@ module _ (s : Series) (apart : (day : ℤ) → s.event.now.start.stamp ≡ Date 
   own-entry t = entry_from clocks event t.given
 
   unwanted : (t : Start) → t.moment ≡ instant clocks (time_of t.given) → not (is_excluded clocks event t.moment) ≡ false
-      → wanted_by clocks s.window event s.since t ≡ None
+      → wanted_by clocks s.window event s.since s.replaced.instants.items t ≡ None
   unwanted t at e =
-      by (int_le s.since (own-entry t).start) (is_met s.window (own-entry t)) (not (is_excluded clocks event (own-entry t).start))
-      (ap (λ m. not (is_excluded clocks event m)) (sym at) ∙ e)
+      by (int_le s.since (own-entry t).start) (is_met s.window (own-entry t)) (is_excluded clocks event (own-entry t).start)
+      (is_among s.replaced.instants.items (own-entry t).start) (ap (λ m. not (is_excluded clocks event m)) (sym at) ∙ e)
     where
-      by : (x y z : Bool) → z ≡ false → (if x && (y && z) then Some (own-entry t) else None) ≡ None
-      by x y z e = grind arith
+      by : (x y z v : Bool) → not z ≡ false → (if x && (y && not (z || v)) then Some (own-entry t) else None) ≡ None
+      by x y z v e = grind arith
 
   pub removed-test : IsTest s (IsDayShown s.exclusions.days.items) (λ t. not (is_excluded clocks event t))
   removed-test = record { out = λ a is n shown g. ap not (removed a is n shown g); unwanted = λ t at from e. unwanted t at e }

@@ -4,7 +4,7 @@ use Rattle.std.proofs.Common.{slice_get, int_eq, Bool, ◌&&◌, not, if◌then�
 use Rattle.std.proofs.lemmas.Int.{ints}
 use Rattle.std.proofs.lemmas.List.{take-append-drop}
 use Rattle.std.specs.List.{cons_option, filter_map}
-use Rattle.std.proofs.lemmas.Bool.{and_parts, cond_both}
+use Rattle.std.proofs.lemmas.Bool.{and_parts, cond_both, or_parts}
 use Rattle.ics_rule.specs.Cursors.{place_of}
 use Rattle.ics_fields.specs.Locals.{midnight, whole_days}
 use Rattle.ics_event.specs.declared.event.Event.{Event}
@@ -19,7 +19,7 @@ use Rattle.ics_starts.specs.declared.zones.FileZones.{FileZones}
 use Rattle.ics_listing.specs.FileClocks.{Clocks}
 use Rattle.ics_starts.specs.Clocks.{instant}
 use Rattle.ics_listing.specs.Entry.{Entry, entry_cmp}
-use Rattle.ics_starts.specs.Exclusions.{is_excluded}
+use Rattle.ics_starts.specs.Exclusions.{is_among, is_excluded}
 use Rattle.ics_listing.specs.StartOrder.{moment_cmp, HasStart}
 use Rattle.ics_starts.specs.Found.{AreStartsSince, IsStart, IsSought}
 use Rattle.ics_listing.specs.Listing.{IsIn, IsListing}
@@ -28,7 +28,8 @@ use Rattle.ics_listing.specs.WindowMeeting.{is_met}
 use Rattle.ics_listing.specs.Merged.{cut, union, put}
 use Rattle.ics_listing.specs.Rising.{IsBefore, Rises}
 use Rattle.ics_starts.specs.RuleFeed.{held_in, starts_left}
-use Rattle.ics_starts.specs.SeriesStarts.{first_of, given_of, has_moment, is_wanted, rule_asked, rule_left, wanted_by, HasOwnRule, HasRuled, HasSameRule}
+use Rattle.ics_starts.specs.SeriesStarts.{first_of, given_of, has_moment, is_left_out, is_wanted, rule_asked, rule_left, wanted_by}
+use Rattle.ics_starts.specs.SeriesStarts.{HasOwnRule, HasRuled, HasSameRule}
 use Rattle.ics_starts.specs.SeriesStarts.{IsAskedNear, IsSeriesMet, IsFirstOf}
 use Rattle.ics_listing.specs.KnownStarts.{listed_left}
 use Rattle.ics_starts.specs.SeriesFeed.{series_left, series_near, series_of}
@@ -100,21 +101,25 @@ module _ (clocks : Clocks) (event : Event) (test : Entry → Bool) where
       (k.start, k.stands, ap (λ b. if b then Some (own k.start) else None) (ap test (sym k.is) ∙ k.passes) ∙ ap Some (sym k.is)))
 
 -- What is wanted of the starts from an instant on is what the series has.
-module _ (clocks : Clocks) (w : Window) (event : Event) (since : ℤ) (starts : List Start) (h : AreStartsSince clocks event w since starts) where
+module _ (clocks : Clocks) (w : Window) (event : Event) (since : ℤ) (replaced : List ℤ) (starts : List Start)
+    (h : AreStartsSince clocks event w since starts) where
   -- a start from which the event meets the window is sought
   own-sought : (source : StartSource) (given : Rdate) → GivesStart clocks event source given → Meets w (entry_from clocks event given) →
       IsSought clocks event w (instant clocks (time_of given))
   own-sought source given g m = record { source = source; given = given; gives = g; starts = refl; meets = m }
 
-  wanted-is : (o : Entry) → is_wanted clocks w event since o ≡ true → ((since ≤ℤ o.start) × Meets w o) × (is_excluded clocks event o.start ≡ false)
+  wanted-is : (o : Entry) → is_wanted clocks w event since replaced o ≡ true
+      → ((since ≤ℤ o.start) × Meets w o) × ((is_excluded clocks event o.start ≡ false) × (is_among replaced o.start ≡ false))
   wanted-is o e =
-      let late = and_parts (int_le since o.start) (is_met w o && not (is_excluded clocks event o.start)) e in
-      let met = and_parts (is_met w o) (not (is_excluded clocks event o.start)) late.1 in
-      ((int_le_true since o.start late.0, is_met-meets w o met.0), not-true (is_excluded clocks event o.start) met.1)
+      let late = and_parts (int_le since o.start) (is_met w o && not (is_left_out clocks event replaced o.start)) e in
+      let met = and_parts (is_met w o) (not (is_left_out clocks event replaced o.start)) late.1 in (
+        (int_le_true since o.start late.0, is_met-meets w o met.0),
+        or_parts (is_excluded clocks event o.start) (is_among replaced o.start) (not-true (is_left_out clocks event replaced o.start) met.1),
+      )
 
   -- a start that is wanted is given by the first to do so
-  found-is : (s : Start) → IsIn s starts → is_wanted clocks w event since (entry_from clocks event s.given) ≡ true →
-      IsSeriesMet clocks event w since (entry_from clocks event s.given)
+  found-is : (s : Start) → IsIn s starts → is_wanted clocks w event since replaced (entry_from clocks event s.given) ≡ true →
+      IsSeriesMet clocks event w since replaced (entry_from clocks event s.given)
   found-is s m t =
       let start = h.are s m in
       let is = wanted-is (entry_from clocks event s.given) t in
@@ -134,29 +139,29 @@ module _ (clocks : Clocks) (w : Window) (event : Event) (since : ℤ) (starts : 
                   (same-moment found.start s (found.same ∙ (e ∙ sym start.moment))) h.rises found.stands m in
                   subst (λ x. IsNotAfter x.source other) same found.earlier;
               ends = refl;
-              stays = is.1;
+              stays = is.1.0;
             };
           },
           is.0.1,
         ),
-        is.0.0,
+        (is.0.0, is.1.1),
       )
 
   -- an occurrence of the series has a start that was found
-  is-found : (e : Entry) → IsSeriesMet clocks event w since e → IsPicked clocks event (is_wanted clocks w event since) starts e
+  is-found : (e : Entry) → IsSeriesMet clocks event w since replaced e → IsPicked clocks event (is_wanted clocks w event since replaced) starts e
   is-found e o =
       let of = o.0.0.lasts in
       let by : e ≡ entry_from clocks event of.given = same-entry e (entry_from clocks event of.given) of.starts of.ends (o.0.0.recurrence
       ∙ of.starts) o.0.0.event in
       let found = h.all of.source of.given of.gives (own-sought of.source of.given of.gives (subst (Meets w) by o.0.1))
-      (subst (λ x. since ≤ℤ x) of.starts o.1) in
+      (subst (λ x. since ≤ℤ x) of.starts o.1.0) in
       let start = h.are found.start found.stands in
       let above = of.earliest found.start.source found.start.given start.gives (sym start.moment ∙ (found.same ∙ sym of.starts)) in record {
         start = found.start;
         stands = found.stands;
         is = by ∙ ap (entry_from clocks event)
             (same-given clocks event of.given found.start.given (same-source of.source found.start.source above found.earlier) of.gives start.gives);
-        passes = let met = meets-is_met w e o.0.1 in let late = o.1 in let stays = of.stays in grind (arith, ints);
+        passes = let met = meets-is_met w e o.0.1 in let late = o.1.0 in let stays = of.stays in let kept = o.1.1 in grind (arith, ints);
       }
 
   -- what starts later goes later
@@ -168,10 +173,12 @@ module _ (clocks : Clocks) (w : Window) (event : Event) (since : ℤ) (starts : 
   rises-later [] r = tt
   rises-later (e ∷ es) r = (before-later e es r.0, rises-later es r.1)
 
-  pub series-listing : IsListing entry_cmp (IsSeriesMet clocks event w since) (given_of clocks w event since starts)
+  pub series-listing : IsListing entry_cmp (IsSeriesMet clocks event w since replaced) (given_of clocks w event since replaced starts)
   series-listing =
-      let listing = listing-picked clocks event (is_wanted clocks w event since) (IsSeriesMet clocks event w since) starts h.rises h.are found-is is-found in
-      record { rises = rises-later (given_of clocks w event since starts) listing.rises; exact = listing.exact }
+      let listing =
+      listing-picked clocks event (is_wanted clocks w event since replaced) (IsSeriesMet clocks event w since replaced) starts h.rises h.are
+      found-is is-found in
+      record { rises = rises-later (given_of clocks w event since replaced starts) listing.rises; exact = listing.exact }
 
 -- Both kinds of starts rise.
 pub rises-rule : (o : Option RuleStarts) → Rises moment_cmp (rule_left o)
@@ -198,10 +205,10 @@ module _ (clocks : Clocks) (w : Window) (event : Event) where
   rises-behind None es r = r
   rises-behind (Some e) es r = r.1
 
-  pub rises-rest : (since : ℤ) {s : Start} {all rest : List Start} → all ≡ s ∷ rest
-      → Rises entry_cmp (given_of clocks w event since all) → Rises entry_cmp (given_of clocks w event since rest)
-  rises-rest since {s = s} {rest = rest} e r =
-      rises-behind (wanted_by clocks w event since s) (given_of clocks w event since rest) (rw e at r)
+  pub rises-rest : (since : ℤ) (replaced : List ℤ) {s : Start} {all rest : List Start} → all ≡ s ∷ rest
+      → Rises entry_cmp (given_of clocks w event since replaced all) → Rises entry_cmp (given_of clocks w event since replaced rest)
+  rises-rest since replaced {s = s} {rest = rest} e r =
+      rises-behind (wanted_by clocks w event since replaced s) (given_of clocks w event since replaced rest) (rw e at r)
 
 -- Starts at an instant.
 pub moment-in : (xs : List Start) (t : ℤ) → has_moment xs t ≡ true → (x : Start) × IsIn x xs × (x.moment ≡ t)
@@ -211,11 +218,12 @@ pub in-moment : (x : Start) (t : ℤ) (xs : List Start) → x.moment ≡ t → I
 in-moment x t xs is m = in-any (λ (s : Start). int_eq s.moment t) x xs (true-equal x.moment t is) m
 
 -- What goes before all that is left is not tied with what is still to come.
-module _ (clocks : Clocks) (w : Window) (event : Event) (since : ℤ) where
+module _ (clocks : Clocks) (w : Window) (event : Event) (since : ℤ) (replaced : List ℤ) where
   begins-after : (t : Start) (rest : List Start) (o : Entry) → IsBefore moment_cmp t rest →
-      ((s : Start) → IsIn s rest → s.moment ≡ instant clocks (time_of s.given)) → IsIn o (given_of clocks w event since rest) → t.moment <ℤ o.start
+      ((s : Start) → IsIn s rest → s.moment ≡ instant clocks (time_of s.given)) → IsIn o (given_of clocks w event since replaced rest)
+      → t.moment <ℤ o.start
   begins-after t rest o b timed m =
-      let k = in-picked clocks event (is_wanted clocks w event since) rest o m in
+      let k = in-picked clocks event (is_wanted clocks w event since replaced) rest o m in
       let less = int-less t.moment k.start.moment (before-in moment_cmp moment_total t k.start rest b k.stands) in
       subst (λ x. t.moment <ℤ x) (timed k.start k.stands ∙ ap (λ (e : Entry). e.start) (sym k.is)) less
 
@@ -224,14 +232,14 @@ module _ (clocks : Clocks) (w : Window) (event : Event) (since : ℤ) where
   in-behind (Some x) e es m = inr m
 
   pub ruled-rest : (a b : Option RuleStarts) {t : Start} {all rest : List Start} → HasSameRule a b → rule_left b ≡ cut moment_cmp t (rule_left a) →
-      IsFrontOf clocks w event t all rest → HasRuled clocks event a (given_of clocks w event since all)
-      → HasRuled clocks event b (given_of clocks w event since rest)
+      IsFrontOf clocks w event t all rest → HasRuled clocks event a (given_of clocks w event since replaced all)
+      → HasRuled clocks event b (given_of clocks w event since replaced rest)
   ruled-rest None None same c front h = tt
   ruled-rest (Some a) (Some b) {t = t} {all = all} {rest = rest} same c front h = λ o m local k.
       let rises : Rises moment_cmp (t ∷ rest) = rw front.is at front.rises in
       let after = begins-after t rest o rises.0 (rest-of front.is front.timed) m in
-      let there : IsIn o (given_of clocks w event since all) =
-      rw front.is (in-behind (wanted_by clocks w event since t) o (given_of clocks w event since rest) m) in
+      let there : IsIn o (given_of clocks w event since replaced all) =
+      rw front.is (in-behind (wanted_by clocks w event since replaced t) o (given_of clocks w event since replaced rest) m) in
       let x = moment-in (starts_left a) o.start (h o there local k) in
       in-moment x.0 o.start (starts_left b) x.2
       (rw c (member-cut moment_cmp moment_total t x.0 (starts_left a)
@@ -240,17 +248,17 @@ module _ (clocks : Clocks) (w : Window) (event : Event) (since : ℤ) where
 
   -- such an occurrence begins at the instant of one of these starts, and not before that from which on they are given
   pub given-start : (starts : List Start) → ((s : Start) → IsIn s starts → s.moment ≡ instant clocks (time_of s.given)) → (o : Entry)
-      → IsIn o (given_of clocks w event since starts) → (since ≤ℤ o.start) × ((s : Start) × IsIn s starts × (s.moment ≡ o.start))
+      → IsIn o (given_of clocks w event since replaced starts) → (since ≤ℤ o.start) × ((s : Start) × IsIn s starts × (s.moment ≡ o.start))
   given-start starts timed o m =
-      let k = in-picked clocks event (is_wanted clocks w event since) starts o m in
-      let passes = and_parts (int_le since o.start) (is_met w o && not (is_excluded clocks event o.start)) k.passes in (
+      let k = in-picked clocks event (is_wanted clocks w event since replaced) starts o m in
+      let passes = and_parts (int_le since o.start) (is_met w o && not (is_left_out clocks event replaced o.start)) k.passes in (
         int_le_true since o.start passes.0,
         (k.start, k.stands, timed k.start k.stands ∙ ap (λ (e : Entry). e.start) (sym k.is)),
       )
 
   -- each occurrence that the starts of an event give is of it
-  pub given-own : (starts : List Start) (e : Entry) → IsIn e (given_of clocks w event since starts) → e.event ≡ event
-  given-own starts e m = ap (λ (o : Entry). o.event) (in-picked clocks event (is_wanted clocks w event since) starts e m).is
+  pub given-own : (starts : List Start) (e : Entry) → IsIn e (given_of clocks w event since replaced starts) → e.event ≡ event
+  given-own starts e m = ap (λ (o : Entry). o.event) (in-picked clocks event (is_wanted clocks w event since replaced) starts e m).is
 
 module _ (clocks : Clocks) (event : Event) where
   -- the same of the rule's starts, where there is one
@@ -271,7 +279,7 @@ module _ (clocks : Clocks) (event : Event) where
 -- What is still to come is near.
 pub series-near : (s : Series) (o : Entry) → IsIn o (series_of s (series_left s)) → series_near s o
 series-near s o m = (
-  given-own (clocks_in s.zones) s.window s.event.now s.since (series_left s) o m,
+  given-own (clocks_in s.zones) s.window s.event.now s.since s.replaced.instants.items (series_left s) o m,
   rule-near (clocks_in s.zones) s.event.now s.rule_starts (series_of s (series_left s)) s.ruled o m,
 )
 
@@ -295,7 +303,7 @@ read s rule same left = record s {
   rule_starts = rule;
   known = rw left s.known;
   ruled = ruled-same (clocks_in s.zones) s.event.now s.rule_starts rule same left
-      (ap (λ xs. given_of (clocks_in s.zones) s.window s.event.now s.since (union moment_cmp xs (listed_left s.listed))) left) s.ruled;
+      (ap (λ xs. series_of s (union moment_cmp xs (listed_left s.listed))) left) s.ruled;
   own_rule = own-rule-same s.zones s.event.now s.window (first_of (clocks_in s.zones) s.window s.event.now s.since) s.rule_starts rule same s.own_rule;
   rising = rw left s.rising;
 }

@@ -12,20 +12,21 @@ use Rattle.ics_listing.specs.declared.start.Start.{Start}
 use Rattle.ics_listing.specs.declared.window.Window.{Window}
 use Rattle.ics_starts.specs.declared.zones.FileZones.{FileZones}
 use Rattle.ics_listing.specs.FileClocks.{Clocks}
-use Rattle.ics_starts.specs.Clocks.{instant}
+use Rattle.ics_starts.specs.Clocks.{clock_by, clock_of, instant, IsBounded}
+use Rattle.ics_zone.specs.declared.bounds.Bounds.{Bounds}
 use Rattle.ics_event.specs.Event.{stamp_seconds}
-use Rattle.ics_starts.specs.Finish.{end_by, seconds_by, seconds_lasting}
+use Rattle.ics_starts.specs.Finish.{days_lasting, end_by, seconds_by, seconds_lasting}
 use Rattle.ics_starts.specs.Found.{earlier, earliest, earliest_from, first_met, is_span_met, listed_from, start_at, start_by, IsSought, with_front}
-use Rattle.ics_starts.specs.Leeway.{late_by, seconds_late}
+use Rattle.ics_starts.specs.Leeway.{late_by, late_within, rule_late, seconds_late}
 use Rattle.ics_listing.specs.Listing.{IsIn}
 use Rattle.ics_starts.specs.Meeting.{entry_from}
 use Rattle.ics_starts.specs.MeetsWindow.{Meets}
 use Rattle.ics_starts.specs.Starts.{given_by, recurrence_by, GivesStart}
 use Rattle.ics_listing.specs.StartTimes.{local_of, stamp_at, time_at, time_of}
 use Rattle.ics_starts.specs.FileZones.{clocks_in, is_past}
-use Rattle.ics_starts.proofs.InstantLemmas.{end-bound, instant-near, meets-late, seconds-least}
+use Rattle.ics_starts.proofs.InstantLemmas.{bounds-apart, instant-near, later-bounded, meets-late, seconds-least}
 use Rattle.ics_starts.proofs.MeetsLemmas.{less-le, meets-is_met}
-use Rattle.ics_fields.specs.Locals.{whole_days}
+use Rattle.ics_fields.specs.Locals.{midnight, whole_days}
 use Rattle.ics_fields.specs.declared.local.Local.{Local}
 use Rattle.ics_event.specs.Event.{Length}
 use Rattle.ics_values.specs.declared.time.Length.TheVariants.{Lasting, Open, Until}
@@ -115,6 +116,19 @@ module _ (clocks : Clocks) (w : Window) (event : Event) where
       ∙ (ap (λ i. earliest_from clocks w event (earlier (is_span_met clocks w event s s.given) least s.moment) (drop i xs)) (add-one k)
       ∙ sym (ap (earliest_from clocks w event least) front))
 
+-- how late an occurrence can end where a clock can say so many seconds more or less, and how late at most
+late-range : (rdates : List Rdate) (s : Stamp) (length : Length) (apart : ℤ) → (pos 0 ≤ℤ apart) × (apart ≤ℤ whole_days 4)
+    → (pos 0 ≤ℤ late_by apart rdates s length) × (late_by apart rdates s length ≤ℤ late_by (whole_days 4) rdates s length)
+late-range (rdate ∷ rdates) s length apart h = (omega (arith, ints), omega (arith, ints))
+late-range [] (Date day) length apart h = h
+late-range [] (Utc local) length apart h = (omega (arith, ints), omega (arith, ints))
+late-range [] (Floating local) (Lasting duration) apart h = h
+late-range [] (Zoned local) (Lasting duration) apart h = h
+late-range [] (Floating local) Open apart h = (omega (arith, ints), omega (arith, ints))
+late-range [] (Zoned local) Open apart h = (omega (arith, ints), omega (arith, ints))
+late-range [] (Floating local) (Until end) apart h = (omega (arith, ints), omega (arith, ints))
+late-range [] (Zoned local) (Until end) apart h = (omega (arith, ints), omega (arith, ints))
+
 -- the starts at DTSTART and by RDATEs
 abbrev pub front : Clocks → Window → Event → List Start
 front clocks w event = start_at clocks event (local_of event.start.stamp) ∷ listed_from clocks w event.start 0 event.rdates
@@ -156,70 +170,31 @@ module _ (zones : FileZones) (w : Window) (event : Event) where
           (start_by (clocks_in zones) (Listed place) (Span start lasts)) (front (clocks_in zones) w event) there met in
           omega (arith, ints, e, each)
 
-  -- The end is no more seconds past what the event's length says than it may be late.
-  late-bound : (first : Time) (index : Option ℕ) (s : Stamp) (local : Local) (length : Length)
-      → let given : Time = record { stamp = stamp_at s local; zone = index } in end_by (clocks_in zones) first given s length
-      ≤ℤ ((instant (clocks_in zones) given +ℤ seconds_by (clocks_in zones) first s length) +ℤ late_by [] s length)
-  late-bound first index (Date day) local length =
-      omega (arith, ints, end-bound zones first (record { stamp = stamp_at (Date day) local; zone = index }) (Date day) length)
-  late-bound first index (Utc a) local (Lasting duration) = omega (arith, ints)
-  late-bound first index (Floating a) local (Lasting duration) =
-      omega (arith, ints, end-bound zones first (record { stamp = Floating local; zone = index }) (Floating a) (Lasting duration))
-  late-bound first index (Zoned a) local (Lasting duration) =
-      omega (arith, ints, end-bound zones first (record { stamp = Zoned local; zone = index }) (Zoned a) (Lasting duration))
-  late-bound first index (Utc a) local Open = omega (arith, ints)
-  late-bound first index (Floating a) local Open = omega (arith, ints)
-  late-bound first index (Zoned a) local Open = omega (arith, ints)
-  late-bound first index (Utc a) local (Until end) = omega (arith, ints, int_max_is (pos 0) (instant (clocks_in zones) end -ℤ instant (clocks_in zones) first))
-  late-bound first index (Floating a) local (Until end) =
-      omega (arith, ints, int_max_is (pos 0) (instant (clocks_in zones) end -ℤ instant (clocks_in zones) first))
-  late-bound first index (Zoned a) local (Until end) =
-      omega (arith, ints, int_max_is (pos 0) (instant (clocks_in zones) end -ℤ instant (clocks_in zones) first))
-
-  late-least : (s : Stamp) (length : Length) → pos 0 ≤ℤ late_by [] s length
-  late-least (Date day) length = omega (arith, ints)
-  late-least (Utc local) length = omega (arith, ints)
-  late-least (Floating local) Open = omega (arith, ints)
-  late-least (Floating local) (Until end) = omega (arith, ints)
-  late-least (Floating local) (Lasting duration) = omega (arith, ints)
-  late-least (Zoned local) Open = omega (arith, ints)
-  late-least (Zoned local) (Until end) = omega (arith, ints)
-  late-least (Zoned local) (Lasting duration) = omega (arith, ints)
-
-  late-if : (b : Bool) → (if b then pos 0 else late_by [] event.start.stamp event.length) ≤ℤ late_by [] event.start.stamp event.length
-  late-if true = late-least event.start.stamp event.length
-  late-if false = omega (arith, ints)
-
-  -- what meets the window from a local begins no more before an event of this length can, or not before the window if what has begun is left out
-  pub met-from : (local : Local) → Meets w (entry_from (clocks_in zones) event (At (time_at event.start local))) → (b : Bool) → w.notstarted ≡ b →
-      ((if b then w.from else w.from -ℤ seconds_lasting (clocks_in zones) event) -ℤ (if b then pos 0 else late_by [] event.start.stamp event.length))
-      ≤ℤ instant (clocks_in zones) (time_at event.start local)
-  met-from local m true e = omega (arith, ints, m.started e)
-  met-from local m false e =
-      let end = late-bound event.start event.start.zone event.start.stamp local event.length in
-      let least = seconds-least zones event.start event.start.stamp event.length in
-      let late = late-least event.start.stamp event.length in
-      ⊎_elim (λ l. omega (arith, ints, end, least, late, l, int_max_is)) (λ r. omega (arith, ints, r.1, least, late)) m.lasting
-
-  -- nor does what is sought
-  sought-by : (rdates : List Rdate) → event.rdates ≡ rdates → (t : ℤ) → IsSought (clocks_in zones) event w t →
-      (earliest (clocks_in zones) w event (front (clocks_in zones) w event) -ℤ late_by rdates event.start.stamp event.length) ≤ℤ t
-  sought-by (rdate ∷ rdates) e t s = sought-late t s
-  sought-by [] e t s = by s.source s.given s.gives s.starts s.meets
-    where
-      by : (source : StartSource) (given : Rdate) → GivesStart (clocks_in zones) event source given → instant (clocks_in zones) (time_of given) ≡ t →
-          Meets w (entry_from (clocks_in zones) event given)
-          → (earliest (clocks_in zones) w event (front (clocks_in zones) w event) -ℤ late_by [] event.start.stamp event.length) ≤ℤ t
-      by (Kept local) given g same m =
-          let most = earliest-most (clocks_in zones) w event (first_met (clocks_in zones) w event) (front (clocks_in zones) w event) in
-          let met = subst (λ v. Meets w (entry_from (clocks_in zones) event v)) g.1 m in
-          let there = ap (λ v. instant (clocks_in zones) (time_of v)) g.1 in
-          omega (arith, ints, most, met-from local met w.notstarted refl, late-if w.notstarted, there, same)
-      by (Listed place) given g same m = let f : None ≡ Some g.0 = ap (λ rs. slice_get rs place) (sym e) ∙ g.1 in absurd cc
-
-  late-range : (rdates : List Rdate) → pos 0 ≤ℤ late_by rdates event.start.stamp event.length
-  late-range [] = late-least event.start.stamp event.length
-  late-range (rdate ∷ rdates) = omega (arith, ints)
+  -- By the offsets of the clock: the end of an occurrence by the rule is no more seconds past what the event's length says than they differ by.
+  module _ (b : Bounds) where
+    late-bound : (first : Time) (index : Option ℕ) (s : Stamp) (local : Local) (length : Length) → IsBounded (clock_by (clocks_in zones) index s) b
+        → let given : Time = record { stamp = stamp_at s local; zone = index } in end_by (clocks_in zones) first given s length
+        ≤ℤ ((instant (clocks_in zones) given +ℤ seconds_by (clocks_in zones) first s length) +ℤ late_by (b.most -ℤ b.least) [] s length)
+    late-bound first index (Date day) local length h =
+        let end = h.moments (midnight (local.day +ℤ days_lasting day length)) in
+        let begun = h.moments (stamp_seconds (Date local.day)) in
+        omega (arith, ints, end.1, begun.0)
+    late-bound first index (Utc a) local (Lasting duration) h = omega (arith, ints)
+    late-bound first index (Floating a) local (Lasting duration) h =
+        later-bounded (clock_by (clocks_in zones) index (Floating local)) b duration
+        (instant (clocks_in zones) (record { stamp = Floating local; zone = index })) h
+    late-bound first index (Zoned a) local (Lasting duration) h =
+        later-bounded (clock_by (clocks_in zones) index (Zoned local)) b duration
+        (instant (clocks_in zones) (record { stamp = Zoned local; zone = index })) h
+    late-bound first index (Utc a) local Open h = omega (arith, ints)
+    late-bound first index (Floating a) local Open h = omega (arith, ints)
+    late-bound first index (Zoned a) local Open h = omega (arith, ints)
+    late-bound first index (Utc a) local (Until end) h =
+        omega (arith, ints, int_max_is (pos 0) (instant (clocks_in zones) end -ℤ instant (clocks_in zones) first))
+    late-bound first index (Floating a) local (Until end) h =
+        omega (arith, ints, int_max_is (pos 0) (instant (clocks_in zones) end -ℤ instant (clocks_in zones) first))
+    late-bound first index (Zoned a) local (Until end) h =
+        omega (arith, ints, int_max_is (pos 0) (instant (clocks_in zones) end -ℤ instant (clocks_in zones) first))
 
   -- what counts first is no later than the window's end
   pub earliest-soon : (starts : List Start) → earliest (clocks_in zones) w event starts ≤ℤ w.to
@@ -232,13 +207,52 @@ module _ (zones : FileZones) (w : Window) (event : Event) where
       first-soon true = omega (arith, ints)
       first-soon false = omega (arith, ints, seconds-least zones event.start event.start.stamp event.length)
 
-  -- so what is sought begins no more before what counts first than an occurrence can end late
-  pub sought-from : (t : ℤ) → IsSought (clocks_in zones) event w t
-      → (earliest (clocks_in zones) w event (front (clocks_in zones) w event) -ℤ seconds_late event) ≤ℤ t
-  sought-from t s = sought-by event.rdates refl t s
+  -- Where the clock of DTSTART stays between two offsets.
+  module _ (b : Bounds) (bounded : IsBounded (clock_of (clocks_in zones) event.start) b) where
+    abbrev apart : ℤ
+    apart = b.most -ℤ b.least
 
-  pub late-event : pos 0 ≤ℤ seconds_late event
-  late-event = late-range event.rdates
+    rule-late : pos 0 ≤ℤ rule_late b event
+    rule-late = (late-range [] event.start.stamp event.length apart (bounds-apart b bounded)).0
+
+    late-if : (begun : Bool) → (if begun then pos 0 else rule_late b event) ≤ℤ rule_late b event
+    late-if true = rule-late
+    late-if false = omega (arith, ints)
+
+    -- what meets the window from a local begins no more before an event of this length can, or not before the window if what has begun is left out
+    pub met-from : (local : Local) → Meets w (entry_from (clocks_in zones) event (At (time_at event.start local))) → (begun : Bool) → w.notstarted ≡ begun
+        → ((if begun then w.from else w.from -ℤ seconds_lasting (clocks_in zones) event) -ℤ (if begun then pos 0 else rule_late b event))
+        ≤ℤ instant (clocks_in zones) (time_at event.start local)
+    met-from local m true e = omega (arith, ints, m.started e)
+    met-from local m false e =
+        let end = late-bound b event.start event.start.zone event.start.stamp local event.length bounded in
+        let least = seconds-least zones event.start event.start.stamp event.length in
+        ⊎_elim (λ l. omega (arith, ints, end, least, rule-late, l, int_max_is)) (λ r. omega (arith, ints, r.1, least, rule-late)) m.lasting
+
+    -- nor does what is sought
+    sought-by : (rdates : List Rdate) → event.rdates ≡ rdates → (t : ℤ) → IsSought (clocks_in zones) event w t →
+        (earliest (clocks_in zones) w event (front (clocks_in zones) w event) -ℤ late_by apart rdates event.start.stamp event.length) ≤ℤ t
+    sought-by (rdate ∷ rdates) e t s = sought-late t s
+    sought-by [] e t s = by s.source s.given s.gives s.starts s.meets
+      where
+        by : (source : StartSource) (given : Rdate) → GivesStart (clocks_in zones) event source given → instant (clocks_in zones) (time_of given) ≡ t →
+            Meets w (entry_from (clocks_in zones) event given)
+            → (earliest (clocks_in zones) w event (front (clocks_in zones) w event) -ℤ rule_late b event) ≤ℤ t
+        by (Kept local) given g same m =
+            let most = earliest-most (clocks_in zones) w event (first_met (clocks_in zones) w event) (front (clocks_in zones) w event) in
+            let met = subst (λ v. Meets w (entry_from (clocks_in zones) event v)) g.1 m in
+            let there = ap (λ v. instant (clocks_in zones) (time_of v)) g.1 in
+            omega (arith, ints, most, met-from local met w.notstarted refl, late-if w.notstarted, there, same)
+        by (Listed place) given g same m = let f : None ≡ Some g.0 = ap (λ rs. slice_get rs place) (sym e) ∙ g.1 in absurd cc
+
+    -- so what is sought begins no more before what counts first than an occurrence can end late
+    pub sought-from : (t : ℤ) → IsSought (clocks_in zones) event w t
+        → (earliest (clocks_in zones) w event (front (clocks_in zones) w event) -ℤ late_within b event) ≤ℤ t
+    sought-from t s = sought-by event.rdates refl t s
+
+    -- that is no more than it is for any clock
+    pub late-event : (pos 0 ≤ℤ late_within b event) × (late_within b event ≤ℤ seconds_late event)
+    late-event = late-range event.rdates event.start.stamp event.length apart (bounds-apart b bounded)
 
   -- an event without a rule has no other starts
   pub none-else : event.rule ≡ None → (source : StartSource) (given : Rdate) → GivesStart (clocks_in zones) event source given

@@ -1,5 +1,5 @@
 -- What is known of a series has at most one proof.
-use Rattle.std.specs.Prelude.{◌≡◌, ℤ, List, Option, None, Some}
+use Rattle.std.specs.Prelude.{◌≡◌, ℤ, List, Option, None, Some, IfSome}
 use Rattle.std.specs.Coded.{Unit-prop, Π_prop, codes}
 use Rattle.std.proofs.Props.{props}
 use Rattle.ics_event.specs.declared.event.Event.{Event}
@@ -27,9 +27,9 @@ pub ruled-prop : (clocks : Clocks) (event : Event) (o : Option RuleStarts) (comi
 ruled-prop clocks event None coming = Unit-prop
 ruled-prop clocks event (Some s) coming = Π_prop λ o. Π_prop λ m. Π_prop λ local. Π_prop λ k. hlevel props
 
-pub first-given-prop : (clocks : Clocks) (w : Window) (event : Event) (since : ℤ) (o : Option ℤ) → IsProp (IsFirstGiven clocks w event since o)
+pub first-given-prop : (clocks : Clocks) (w : Window) (event : Event) (since : ℤ) (o : Option ℤ) → IsProp (IfSome o (IsFirstGiven clocks w event since))
 first-given-prop clocks w event since None = Unit-prop
-first-given-prop clocks w event since (Some t) = hlevel props
+first-given-prop clocks w event since (Some t) = Π_prop λ local. Π_prop λ e. hlevel props
 
 zones-set : (a b : FileZones) → IsProp (a ≡ b)
 zones-set a b = hlevel (props, codes)

@@ -1,6 +1,6 @@
 -- The starts of a series still to come, and the occurrences that they give.
-use Rattle.std.specs.Prelude.{◌≡◌, ◌<◌, ◌≤◌, ◌<ℤ◌, ◌≤ℤ◌, ℕ, ℤ, pos, ◌+ℤ◌, ◌-ℤ◌, Bool, true, false, ◌&&◌, not, int_le, List, [], ◌∷◌, Option, None, Some, ◌⊎◌}
-use Rattle.std.specs.Prelude.{if◌then◌else◌, is_none}
+use Rattle.std.specs.Prelude.{◌≡◌, ◌<◌, ◌≤◌, ◌<ℤ◌, ◌≤ℤ◌, ℕ, ℤ, ◌+ℤ◌, ◌-ℤ◌, Bool, true, false, ◌&&◌, ◌||◌, not, int_le, List, [], ◌∷◌, Option, None, Some}
+use Rattle.std.specs.Prelude.{◌⊎◌, if◌then◌else◌, is_none}
 use Rattle.std.specs.Int.{int_max, int_min}
 use Rattle.std.specs.List.{filter_map, list_any}
 use Rattle.std.specs.Ordering.{int_eq}
@@ -11,19 +11,21 @@ use Rattle.ics_fields.specs.Locals.{number, midnight, local_seconds, whole_days}
 use Rattle.ics_period.specs.Recurrence.{Recurrence}
 use Rattle.ics_rule.specs.Cursors.{place_of}
 use Rattle.ics_event.specs.declared.event.Event.{Event}
+use Rattle.ics_values.specs.declared.time.Rdate.TheVariants.{At}
+use Rattle.ics_zone.specs.declared.bounds.Bounds.{Bounds}
 use Rattle.ics_listing.specs.declared.listed_starts.ListedStarts.{ListedStarts}
 use Rattle.ics_starts.specs.declared.rule_starts.RuleStarts.{RuleStarts}
 use Rattle.ics_listing.specs.declared.start.Start.{Start}
 use Rattle.ics_listing.specs.declared.window.Window.{Window}
 use Rattle.ics_starts.specs.declared.zones.FileZones.{FileZones}
 use Rattle.ics_listing.specs.FileClocks.{Clocks}
-use Rattle.ics_starts.specs.Clocks.{instant}
+use Rattle.ics_starts.specs.Clocks.{clock_of, instant, IsBounded}
 use Rattle.ics_listing.specs.Entry.{Entry}
-use Rattle.ics_starts.specs.Exclusions.{is_excluded}
-use Rattle.ics_starts.specs.Found.{earliest, first_met, listed_from, start_at, IsStartIn}
+use Rattle.ics_starts.specs.Exclusions.{is_among, is_excluded}
+use Rattle.ics_starts.specs.Found.{earliest, listed_from, start_at, IsStartIn}
 use Rattle.ics_listing.specs.StartOrder.{moment_cmp}
 use Rattle.ics_starts.specs.FileZones.{clocks_in}
-use Rattle.ics_starts.specs.Leeway.{rule_late, seconds_back, seconds_late}
+use Rattle.ics_starts.specs.Leeway.{late_within, seconds_back}
 use Rattle.ics_listing.specs.Listing.{IsIn}
 use Rattle.ics_starts.specs.Meeting.{entry_from}
 use Rattle.ics_listing.specs.WindowMeeting.{is_met}
@@ -35,9 +37,9 @@ use Rattle.ics_listing.specs.StartTimes.{local_of, time_at}
 use Rattle.ics_starts.specs.Starts.{recurrence_of, IsRuleStart}
 use Rattle.ics_listing.specs.KnownStarts.{listed_left}
 
--- an occurrence of the event that meets the window and begins at this instant or later
-abbrev pub IsSeriesMet : Clocks → Event → Window → ℤ → Entry → Type 0
-IsSeriesMet clocks event w since o = IsEventMet clocks event w o × (since ≤ℤ o.start)
+-- an occurrence of the event that meets the window and begins at this instant or later, but at none that others replace
+abbrev pub IsSeriesMet : Clocks → Event → Window → ℤ → List ℤ → Entry → Type 0
+IsSeriesMet clocks event w since replaced o = IsEventMet clocks event w o × ((since ≤ℤ o.start) × (is_among replaced o.start ≡ false))
 
 -- the starts that the rule still gives, if there is one
 abbrev pub rule_left : Option RuleStarts → List Start
@@ -91,22 +93,24 @@ listed_apart clocks w event (Some parts) = listed_from clocks w event.start 0 ev
 abbrev pub first_asked : Clocks → Window → Event → ℤ → List Start → ℤ
 first_asked clocks w event since starts = int_max (earliest clocks w event starts) (int_min since (w.to +ℤ whole_days 14))
 
--- The locals from DTSTART's on and before this one mean instants before one by more seconds than an occurrence of the event can end late.
+-- the locals from DTSTART's on and before this one mean instants before one
 abbrev pub AreTooEarly : Clocks → Event → Local → ℤ → Type 0
-AreTooEarly clocks event from first = (n : ℕ) → number (local_of event.start.stamp) ≤ n → n < number from
-    → moment_numbered clocks event n <ℤ (first -ℤ seconds_late event)
+AreTooEarly clocks event from first = (n : ℕ) → number (local_of event.start.stamp) ≤ n → n < number from → moment_numbered clocks event n <ℤ first
 
--- The starts that the event's rule gives by the locals from one on. By none before it can it give one that is needed.
+-- The starts that the event's rule gives by the locals from one on. By none before it can it give one that is needed: it means an instant before the first
+-- that is asked for, by more seconds than an occurrence of the event can end late.
 pub record IsRuleFrom (clocks : Clocks) (event : Event) (w : Window) (since : ℤ) (listed starts : List Start) : Type 0 where
   pub rule : Recurrence
   pub has : recurrence_of event ≡ Some rule
   pub from : Local
   pub day : IsDayNumber from.day
-  pub low : AreTooEarly clocks event from (first_asked clocks w event since listed)
+  pub bounds : Bounds
+  pub bounded : IsBounded (clock_of clocks event.start) bounds
+  pub low : AreTooEarly clocks event from (first_asked clocks w event since listed -ℤ late_within bounds event)
   pub gives : starts ≡ found clocks event rule w (number from)
 
 -- These starts are those of this event's rule in this window. They are read from a local on that is not before DTSTART, and no more than
--- so many seconds and a day before the first instant that is needed. By none before it can the rule give one that is needed.
+-- so many seconds and a day before the first instant that is needed. Those before it mean instants before that one.
 pub record IsOwnRule (zones : FileZones) (event : Event) (w : Window) (first : ℤ) (s : RuleStarts) : Type 0 where
   pub zones_are : s.zones ≡ zones
   pub event_is : s.event.now ≡ event
@@ -124,28 +128,27 @@ HasOwnRule zones event w first (Some s) = IsOwnRule zones event w first s
 abbrev pub first_of : Clocks → Window → Event → ℤ → ℤ
 first_of clocks w event since = first_asked clocks w event since (listed_apart clocks w event event.rule)
 
--- the occurrence begins at this instant or later and meets the window, and no EXDATE removes it
-abbrev pub is_wanted : Clocks → Window → Event → ℤ → Entry → Bool
-is_wanted clocks w event since o = int_le since o.start && (is_met w o && not (is_excluded clocks event o.start))
+-- an EXDATE removes a start at this instant, or others replace it
+abbrev pub is_left_out : Clocks → Event → List ℤ → ℤ → Bool
+is_left_out clocks event replaced t = is_excluded clocks event t || is_among replaced t
+
+-- the occurrence begins at this instant or later and meets the window, and is not left out
+abbrev pub is_wanted : Clocks → Window → Event → ℤ → List ℤ → Entry → Bool
+is_wanted clocks w event since replaced o = int_le since o.start && (is_met w o && not (is_left_out clocks event replaced o.start))
 
 -- the occurrence with this start, if it belongs to the series
-abbrev pub wanted_by : Clocks → Window → Event → ℤ → Start → Option Entry
-wanted_by clocks w event since s =
-    if is_wanted clocks w event since (entry_from clocks event s.given) then Some (entry_from clocks event s.given) else None
+abbrev pub wanted_by : Clocks → Window → Event → ℤ → List ℤ → Start → Option Entry
+wanted_by clocks w event since replaced s =
+    if is_wanted clocks w event since replaced (entry_from clocks event s.given) then Some (entry_from clocks event s.given) else None
 
--- The first instant at which a start by the rule can give such an occurrence: it can end so many seconds later than the event's length says. If what has
--- begun is left out, none before the window does.
-abbrev pub first_given : Clocks → Window → Event → ℤ → ℤ
-first_given clocks w event since = int_max (first_met clocks w event -ℤ (if w.notstarted then pos 0 else rule_late event)) since
-
--- an instant is that one, if it is known
-abbrev pub IsFirstGiven : Clocks → Window → Event → ℤ → Option ℤ → Type 0
-IsFirstGiven clocks w event since None = Unit {0}
-IsFirstGiven clocks w event since (Some t) = t ≡ first_given clocks w event since
+-- no start at a local before this instant gives such an occurrence by the event's length, be it replaced or not
+abbrev pub IsFirstGiven : Clocks → Window → Event → ℤ → ℤ → Type 0
+IsFirstGiven clocks w event since t = (local : Local) → is_wanted clocks w event since [] (entry_from clocks event (At (time_at event.start local))) ≡ true
+    → t ≤ℤ instant clocks (time_at event.start local)
 
 -- the occurrences that these starts give
-abbrev pub given_of : Clocks → Window → Event → ℤ → List Start → List Entry
-given_of clocks w event since starts = filter_map (wanted_by clocks w event since) starts
+abbrev pub given_of : Clocks → Window → Event → ℤ → List ℤ → List Start → List Entry
+given_of clocks w event since replaced starts = filter_map (wanted_by clocks w event since replaced) starts
 
 -- one of these starts is at an instant
 abbrev pub has_moment : List Start → ℤ → Bool

@@ -12,7 +12,7 @@ ghost use Rattle.ics_starts.specs.Found.{start_at};
 ghost use Rattle.ics_starts.specs.RuleMarks.{IsBegun};
 ghost use Rattle.ics_starts.specs.Quiet.{beyond-prop, AreBeyond};
 ghost use Rattle.ics_listing.specs.Rising.{Rises, Rises-prop};
-ghost use Rattle.ics_starts.specs.Clocks.{clock_of, instant, AreSpansOf, IsStretched};
+ghost use Rattle.ics_starts.specs.Clocks.{clock_of, instant, AreSpansOf, IsBounded, IsStretched};
 ghost use Rattle.ics_starts.specs.RuleStarts.{gives, lets_until, midnight_number, read_from, settled_by, settled_from, with_held};
 ghost use Rattle.ics_starts.specs.RuleStarts.{AreHeld, HasLookedTo, IsReadTo};
 ghost use Rattle.ics_starts.specs.RuleStartLaws.{cursor-prop, held-prop, looked-prop, read-to-prop, rule-of-prop, stretched-prop, IsRuleOf};
@@ -506,6 +506,13 @@ impl<'a> RuleStarts<'a> {
             let to = self.end_before(before);
             self.pass_to(to);
         }
+    }
+
+    /// Two offsets between which the clock of DTSTART stays.
+    pub(crate) fn bounds(&self) -> Bounds
+        ensures { IsBounded (clock_of (clocks_in self.now.zones) self.now.event.now.start) result }
+    {
+        self.bounds
     }
 
     /// The instant of the next local, if a stretch shows it.

@@ -1,5 +1,5 @@
 //! The occurrences of one event that meet a window, found one by one.
-ghost use Rattle.std.specs.Prelude.{◌≡◌, ◌<◌, ◌≤ℤ◌, ◌-ℤ◌, pos, false, slice_get, true, All, IfOk, List, MatchOption, None};
+ghost use Rattle.std.specs.Prelude.{◌≡◌, ◌<◌, ◌≤ℤ◌, ◌-ℤ◌, pos, false, slice_get, true, All, IfOk, IfSome, List, MatchOption, None};
 ghost use Rattle.ics_event.specs.Event.{IsLasting};
 ghost use Rattle.ics_fields.specs.Locals.{number, year_seconds};
 ghost use Rattle.ics_listing.specs.Entry.{entry_cmp};
@@ -17,7 +17,7 @@ ghost use Rattle.ics_listing.specs.Merged.{cut};
 ghost use Rattle.ics_listing.specs.Rising.{Rises, Rises-prop};
 ghost use Rattle.ics_starts.specs.RuleFeed.{starts_left};
 ghost use Rattle.ics_starts.specs.SeriesLaws.{first-given-prop, own-rule-prop, ruled-prop, starts-in-prop, taken-out-prop};
-ghost use Rattle.ics_starts.specs.SeriesStarts.{first_asked, first_given, first_of, given_of, left, listed_apart, rule_asked, rule_left, rule_steps};
+ghost use Rattle.ics_starts.specs.SeriesStarts.{first_asked, first_of, given_of, left, listed_apart, rule_asked, rule_left, rule_steps};
 ghost use Rattle.ics_starts.specs.SeriesStarts.{AreEnded, AreLeapt, AreSkipped, AreStartsIn, HasOwnRule, HasRuled, HasSameRule};
 ghost use Rattle.ics_starts.specs.SeriesStarts.{IsFirstGiven, IsFirstOf, IsReady, IsRuleFrom};
 ghost use Rattle.ics_listing.specs.KnownStarts.{listed_left};
@@ -32,6 +32,7 @@ use crate::lasting::lasting_by;
 use crate::listed::{listed_again, push_listed};
 use crate::mark::{Mark, counted};
 use crate::occurrence::met_by;
+use crate::replaced::Replaced;
 use crate::rule_starts::RuleStarts;
 use crate::starts::{earliest, first_given, first_nearby, seconds_back, start_at};
 use crate::zones::FileZones;
@@ -52,11 +53,13 @@ pub struct Series<'a> {
     // No start by the rule before this instant gives an occurrence. It is computed where locals may be passed over.
     first: Option<Moment>,
     exclusions: Exclusions,
+    replaced: Replaced,
     rule_starts: Option<RuleStarts<'a>>,
     // The starts by RDATEs and, if there is no rule, the one at DTSTART.
     listed: ListedStarts,
     ends: Ends,
-    ghost first_is: { IsFirstGiven (clocks_in zones) window event.now since first } by { first-given-prop (clocks_in zones) window event.now since first },
+    ghost first_is: { IfSome first (IsFirstGiven (clocks_in zones) window event.now since) } by { first-given-prop (clocks_in zones) window event.now since
+        first },
     ghost own: { IsOwnEvent zones event.now } by { own-event-prop zones event.now },
     ghost taken_out: { AreExclusions (clocks_in zones) event.now window exclusions.instants.items exclusions.days.items } by { taken-out-prop (clocks_in zones)
         event.now window exclusions.instants.items exclusions.days.items },
@@ -65,12 +68,14 @@ pub struct Series<'a> {
     // A start that the rule hides may come to light.
     ghost listed_known: { AreStartsIn zones (listed_left listed) } by { starts-in-prop zones (listed_left listed) },
     ghost ruled: { HasRuled (clocks_in zones) event.now rule_starts
-        (given_of (clocks_in zones) window event.now since (left rule_starts listed)) } by { ruled-prop (clocks_in zones) event.now rule_starts
-            (given_of (clocks_in zones) window event.now since (left rule_starts listed)) },
+        (given_of (clocks_in zones) window event.now since replaced.instants.items (left rule_starts listed)) } by { ruled-prop (clocks_in zones)
+            event.now rule_starts
+            (given_of (clocks_in zones) window event.now since replaced.instants.items (left rule_starts listed)) },
     ghost own_rule: { HasOwnRule zones event.now window (first_of (clocks_in zones) window event.now since) rule_starts } by { own-rule-prop zones event.now
         window (first_of (clocks_in zones) window event.now since) rule_starts },
-    ghost rising: { Rises entry_cmp (given_of (clocks_in zones) window event.now since (left rule_starts listed)) } by { Rises-prop entry_cmp
-        (given_of (clocks_in zones) window event.now since (left rule_starts listed)) },
+    ghost rising: { Rises entry_cmp
+        (given_of (clocks_in zones) window event.now since replaced.instants.items (left rule_starts listed)) } by { Rises-prop entry_cmp
+            (given_of (clocks_in zones) window event.now since replaced.instants.items (left rule_starts listed)) },
 }
 
 /// The starts that are known from the beginning: those by RDATEs and, if there is no rule, the one at
@@ -121,7 +126,7 @@ fn starts_by_rule<'a>(
     // A search under COUNT goes on from the midnight where another began.
     let from = first_nearby(
         first,
-        seconds_back(event, bounds.least),
+        seconds_back(event, bounds),
         parts.count.is_some(),
         earliest.max(since.min(late)),
     );
@@ -280,7 +285,7 @@ impl<'a> Series<'a> {
     ghost use Rattle.ics_starts.specs.SeriesFeed.{series_left, series_near, series_of, series_sources, source_of, IsSameSeries};
     ghost use Rattle.ics_starts.specs.SeriesStarts.{wanted_by, IsSeriesMet};
 
-    /// The occurrences of an event of the file that meet the window and begin at the instant `since` or later.
+    /// The occurrences of an event of the file that meet the window and begin at the instant `since` or later, but for those that others replace.
     /// Under COUNT the rule is searched from the mark on, which a series of the same event has given.
     pub fn new(
         alloc: Global,
@@ -289,11 +294,12 @@ impl<'a> Series<'a> {
         window: Window,
         since: Moment,
         mark: Option<Mark>,
+        replaced: Replaced,
     ) -> Result<Series<'a>, AllocError>
         requires own { IsOwnEvent zones event.now }
         requires mark { IsMarkOf event.now mark }
         ensures listing { IfOk result (λ series. IsListing entry_cmp
-            (IsSeriesMet (clocks_in zones.entry) event.entry.now window since)
+            (IsSeriesMet (clocks_in zones.entry) event.entry.now window since replaced.instants.items)
             (⟦<Series<'a> as Coming>⟧.coming series)) }
         ensures sources { IfOk result (λ series. series_sources series ≡ source_of (clocks_in zones.entry) event.entry.now window since) }
         ensures begun { IfOk result (λ series. MatchOption series.rule_starts (Unit {0}) (λ s. IsBegun s.rule s.from s.cursor)) }
@@ -308,6 +314,7 @@ impl<'a> Series<'a> {
             since,
             first: None,
             exclusions,
+            replaced,
             rule_starts,
             listed: ListedStarts::new(alloc, listed)?,
             ends: Ends::new(),
@@ -351,11 +358,12 @@ impl<'a> Series<'a> {
         self.listed.pass(start);
     }
 
-    /// Whether a start can give an occurrence. One that is in the window does, unless an EXDATE removes it, and is not looked
-    /// at any further; one that is behind it does not.
+    /// Whether a start can give an occurrence. One that is in the window does, unless an EXDATE removes it or others replace it, and
+    /// is not looked at any further; one that is behind it does not.
     fn can_give(&self, start: Start) -> bool
         requires { IsStartIn self.now.zones start }
-        ensures { result ≡ false → wanted_by (clocks_in self.now.zones) self.now.window self.now.event.now self.now.since start ≡ None }
+        ensures { result ≡ false → wanted_by (clocks_in self.now.zones) self.now.window self.now.event.now self.now.since
+            self.now.replaced.instants.items start ≡ None }
     {
         if self.window.to <= start.moment {
             return false;
@@ -423,13 +431,22 @@ impl<'a> Series<'a> {
         }
     }
 
-    /// The first instant at which a start by the rule can give an occurrence.
+    /// An instant before which no start by the rule gives an occurrence.
     fn first_given(&self) -> Moment
-        ensures { result ≡ first_given (clocks_in self.now.zones) self.now.window self.now.event.now self.now.since }
+        ensures { IsFirstGiven (clocks_in self.now.zones) self.now.window self.now.event.now self.now.since result }
     {
         match self.first {
             Some(first) => first,
-            None => first_given(self.zones, self.event, &self.window, self.since),
+            None => match &self.rule_starts {
+                None => self.since,
+                Some(starts) => first_given(
+                    self.zones,
+                    self.event,
+                    &self.window,
+                    self.since,
+                    starts.bounds(),
+                ),
+            },
         }
     }
 
@@ -521,9 +538,12 @@ impl<'a> Series<'a> {
     fn wanted(&self, start: Start) -> Option<Occurrence<'a>>
         requires { IsStartIn self.now.zones start }
         ensures { option_map entry_of result ≡ wanted_by (clocks_in self.now.zones) self.now.window self.now.event.now self.now.since
-            start }
+            self.now.replaced.instants.items start }
     {
         if start.moment < self.since {
+            return None;
+        }
+        if self.replaced.names(start.moment) {
             return None;
         }
         let (zones, event) = (self.zones, self.event);

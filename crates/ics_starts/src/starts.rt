@@ -4,10 +4,11 @@ ghost use Rattle.std.specs.Int.{int_max, int_min};
 ghost use Rattle.jiff_core.specs.Calendar.{IsWithin};
 ghost use Rattle.ics_fields.specs.Days.{IsDayNumber};
 ghost use Rattle.ics_fields.specs.Locals.{midnight, local_seconds, whole_days, year_seconds};
-ghost use Rattle.ics_starts.specs.SeriesStarts.{first_given};
+ghost use Rattle.ics_starts.specs.SeriesStarts.{IsFirstGiven};
 ghost use Rattle.ics_starts.specs.Found.{earliest, first_met, is_span_met, start_at, IsStartIn};
 ghost use Rattle.ics_zone.specs.Observances.{is_until};
-ghost use Rattle.ics_starts.specs.Leeway.{rule_late, seconds_late, seconds_off};
+ghost use Rattle.ics_starts.specs.Clocks.{clock_of, IsBounded};
+ghost use Rattle.ics_starts.specs.Leeway.{late_within, rule_late, seconds_off};
 ghost use Rattle.ics_starts.specs.RuleStarts.{ends_at};
 ghost use Rattle.ics_listing.specs.StartTimes.{local_of, time_at};
 ghost use Rattle.ics_starts.specs.FileZones.{clocks_in, IsOwnEvent, IsTimeOf};
@@ -20,6 +21,7 @@ use crate::zones::FileZones;
 use ics_event::{Event, Length, Rdate};
 use ics_listing::{Start, StartSource, Window, local_of, time_at};
 use ics_values::{Local, Moment, Stamp};
+use ics_zone::Bounds;
 
 const FOUR_DAYS: i64 = 4 * 86_400;
 
@@ -86,21 +88,23 @@ fn is_span_met(zones: FileZones<'_>, event: &Event, start: Start, window: &Windo
     }
 }
 
-/// The first instant at which a start by the rule can begin an occurrence that meets the window, and not before
-/// another.
+/// An instant before which no start by the rule gives an occurrence that meets the window and is not before another, where the clock of DTSTART stays
+/// between two offsets.
 pub(crate) fn first_given(
     zones: FileZones<'_>,
     event: &Event,
     window: &Window,
     since: Moment,
+    bounds: Bounds,
 ) -> Moment
-    requires { IsOwnEvent zones event.now }
-    ensures { result ≡ first_given (clocks_in zones.entry) window.now event.now since }
+    requires event { IsOwnEvent zones event.now }
+    requires bounds { IsBounded (clock_of (clocks_in zones) event.now.start) bounds }
+    ensures { IsFirstGiven (clocks_in zones.entry) window.now event.now since result }
 {
     let late = if window.notstarted {
         0
     } else {
-        rule_late(event)
+        rule_late(event, bounds)
     };
     let first = first_met(zones, event, window) - late;
     first.max(since)
@@ -116,44 +120,53 @@ pub(crate) fn is_until(until: Option<Moment>, moment: Moment) -> bool
     }
 }
 
-/// How many seconds later an occurrence of an event can end than the seconds of its length say.
-fn seconds_late(event: &Event) -> i64
-    ensures value { result ≡ seconds_late event.now }
+/// How many seconds later an occurrence of an event can end than the seconds of its length say, where the clock of DTSTART stays between two offsets.
+/// An RDATE may have another clock.
+fn seconds_late(event: &Event, bounds: Bounds) -> i64
+    requires least { IsWithin 93_599 bounds.least }
+    requires most { IsWithin 93_599 bounds.most }
+    requires order { bounds.least ≤ℤ bounds.most }
+    ensures value { result ≡ late_within bounds event.now }
     ensures least { pos 0 ≤ℤ result }
     ensures most { result ≤ℤ whole_days 4 }
 {
     if event.rdates.is_empty() {
-        rule_late(event)
+        rule_late(event, bounds)
     } else {
         FOUR_DAYS
     }
 }
 
-/// How many seconds later an occurrence by the rule of an event can end than the seconds of its length say.
-fn rule_late(event: &Event) -> i64
-    ensures value { result ≡ rule_late event.now }
+/// The same of an occurrence by the rule. Its end is read by the clock of DTSTART, and can be as late as the offsets differ.
+fn rule_late(event: &Event, bounds: Bounds) -> i64
+    requires least { IsWithin 93_599 bounds.least }
+    requires most { IsWithin 93_599 bounds.most }
+    requires order { bounds.least ≤ℤ bounds.most }
+    ensures value { result ≡ rule_late bounds event.now }
     ensures least { pos 0 ≤ℤ result }
     ensures most { result ≤ℤ whole_days 4 }
 {
+    let apart = bounds.most - bounds.least;
     match event.start.stamp {
-        Stamp::Date(_) => FOUR_DAYS,
+        Stamp::Date(_) => apart,
         Stamp::Utc(_) => 0,
         Stamp::Floating(_) | Stamp::Zoned(_) => match event.length {
             Length::Open | Length::Until(_) => 0,
-            Length::Lasting(_) => FOUR_DAYS,
+            Length::Lasting(_) => apart,
         },
     }
 }
 
-/// How many seconds before the earliest instant that counts the locals of an event's rule have to be read, on a clock that is at least so many
-/// seconds ahead of UTC.
-pub(crate) fn seconds_back(event: &Event, least: i64) -> i64
-    requires { IsWithin 93_599 least }
-    ensures value { result ≡ seconds_late event.now -ℤ least }
+/// How many seconds before the earliest instant that counts the locals of an event's rule have to be read, on a clock that stays between two offsets.
+pub(crate) fn seconds_back(event: &Event, bounds: Bounds) -> i64
+    requires least { IsWithin 93_599 bounds.least }
+    requires most { IsWithin 93_599 bounds.most }
+    requires order { bounds.least ≤ℤ bounds.most }
+    ensures value { result ≡ late_within bounds event.now -ℤ bounds.least }
     ensures least { (pos 0 -ℤ whole_days 2) ≤ℤ result }
     ensures most { result ≤ℤ whole_days 6 }
 {
-    seconds_late(event) - least
+    seconds_late(event, bounds) - bounds.least
 }
 
 /// The local from which on a rule with this first local is read: that local or, if it is later, the one that is so many seconds before

@@ -97,7 +97,7 @@ fn list<O: Sink>(
     ensures cause { IsErrOf result RunFault.WriteFault → LeftByFault O.puts out.new }
 {
     let mut folder = Folder::new(alloc, files, request.zone.clone()?)?;
-    folder.prepare(&request.window);
+    folder.prepare(&request.window, request.every_day.is_some());
     list_folder(alloc, &folder, request, out)
 }
 

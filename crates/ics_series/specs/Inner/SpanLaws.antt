@@ -1,5 +1,5 @@
 -- What a listing under each day knows of its versions and their spans has at most one proof.
-use Rattle.std.specs.Prelude.{◌≡◌, ℤ, List, Option, map}
+use Rattle.std.specs.Prelude.{◌≡◌, ℤ, List, map}
 use Rattle.std.specs.Coded.{Π_prop, codes}
 use Rattle.std.proofs.Props.{props}
 use Rattle.ics_file.specs.File.{FileSaid}
@@ -9,8 +9,9 @@ use Rattle.ics_series.specs.declared.version.Version.{Version}
 use Rattle.ics_listing.specs.declared.window.Window.{Window}
 use Rattle.ics_series.specs.Chosen.{IsChosen}
 use Rattle.ics_listing.specs.FileClocks.{Clock, Clocks}
+use Rattle.ics_listing.specs.Entry.{Entry}
 use Rattle.ics_listing.specs.Listing.{IsListing}
-use Rattle.ics_series.specs.Inner.Spans.{floor_of, AreSpansAfter, NoneMeets}
+use Rattle.ics_series.specs.Inner.Spans.{floor_of, AreSpansAfter, IsKeptFrom, IsSpanOf, NoneMeets}
 use Rattle.ics_series.specs.PlacedEvents.{Placed, clocks_at}
 use Rattle.ics_series.specs.Versions.{by_subject, label_of, seen, Label}
 use Rattle.ics_series.specs.NearDays.{HasOffsets}
@@ -31,11 +32,14 @@ those-chosen-prop files display versions = Π_prop λ chosen. Π_prop λ l. labe
 pub offsets-prop : (clock : Clock) (w : Window) (b : Bounds) → IsProp (HasOffsets clock w b)
 offsets-prop clock w b = hlevel props
 
-none-meets-prop : (clocks : Clocks) (event : Event) (w : Window) (floor : Option ℤ) → IsProp (NoneMeets clocks event w floor)
-none-meets-prop clocks event w floor = hlevel props
+none-meets-prop : (clocks : Clocks) (event : Event) (w : Window) (IsAsked : Entry → Type 0) → IsProp (NoneMeets clocks event w IsAsked)
+none-meets-prop clocks event w IsAsked = hlevel props
+
+span-prop : (clocks : Clocks) (event : Event) (w : Window) (IsAsked : Entry → Type 0) (s : Span) → IsProp (IsSpanOf clocks event w IsAsked s)
+span-prop clocks event w IsAsked s = hlevel (props, none-meets-prop)
 
 pub spans-after-prop : (files : List FileSaid) (display : Clock) (b : Bounds) (w : Window) (day : ℤ) (labels : List Label) (spans : List Span)
     → IsProp (AreSpansAfter files display b w day labels spans)
 spans-after-prop files display b w day labels spans =
     Π_prop λ x. Π_prop λ n. Π_prop λ later. Π_prop λ near. Π_prop λ k. Π_prop λ s. Π_prop λ l. Π_prop λ event. Π_prop λ at. Π_prop λ there. Π_prop λ stands.
-    Π_prop λ out. none-meets-prop (clocks_at files display l.spot.file) event n (floor_of w)
+    span-prop (clocks_at files display l.spot.file) event n (IsKeptFrom files display (floor_of w)) s

@@ -2,7 +2,7 @@
 use Rattle.std.specs.Prelude.{◌≡◌, ◌⊎◌, ◌<ℤ◌, ◌≤ℤ◌, ◌-ℤ◌, ℕ, ℤ, pos, negsuc, Bool, true, false, ◌&&◌, not, int_le, int_lt, if◌then◌else◌, List, [], ◌∷◌, length}
 use Rattle.std.specs.Prelude.{slice_get}
 use Rattle.std.specs.Prelude.{Option, Some, None}
-use Rattle.std.specs.Int.{int_min}
+use Rattle.std.specs.Int.{int_max, int_min}
 use Rattle.std.specs.Option.{unwrap_or}
 use Rattle.ics_file.specs.File.{FileSaid}
 use Rattle.ics_event.specs.declared.event.Event.{Event}
@@ -14,10 +14,12 @@ use Rattle.ics_starts.specs.Clocks.{instant}
 use Rattle.ics_listing.specs.Entry.{Entry}
 use Rattle.ics_starts.specs.Finish.{finish}
 use Rattle.ics_starts.specs.Quiet.{IsQuietTo}
+use Rattle.ics_listing.specs.WindowBounds.{occurrence_first}
 use Rattle.ics_listing.specs.WindowMeeting.{is_met}
 use Rattle.ics_starts.specs.MeetsWindow.{Meets}
 use Rattle.ics_starts.specs.Instances.{IsOf}
 use Rattle.ics_series.specs.NearDays.{IsNearDay}
+use Rattle.ics_series.specs.Inner.Masters.{IsUnreplaced}
 use Rattle.ics_series.specs.PlacedEvents.{clocks_at}
 use Rattle.ics_starts.specs.SingleEvents.{entry_first, is_single}
 use Rattle.ics_series.specs.Spots.{event_at}
@@ -59,6 +61,15 @@ is_out_of (Some s) w = not (can_meet s w)
 abbrev pub is_out : List Span → ℕ → Window → Bool
 is_out spans place w = is_out_of (slice_get spans place) w
 
+-- the instant with which a span begins, or the first of all
+abbrev pub first_in : Option Span → ℤ
+first_in None = always.first
+first_in (Some s) = s.first
+
+-- that of the span at a place
+abbrev pub first_at : List Span → ℕ → ℤ
+first_at spans place = first_in (slice_get spans place)
+
 -- an occurrence begins at an instant or later, if there is one
 abbrev pub IsStartedBy : Option ℤ → Entry → Type 0
 IsStartedBy None o = Unit {0}
@@ -68,16 +79,26 @@ IsStartedBy (Some floor) o = floor ≤ℤ o.start
 abbrev pub floor_of : Window → Option ℤ
 floor_of w = if w.notstarted then Some (w.from -ℤ pos 1) else None
 
--- No occurrence of the event from an instant on meets a window: of one that starts once that at its DTSTART, whatever instance that is.
-pub record NoneMeets (clocks : Clocks) (event : Event) (w : Window) (floor : Option ℤ) : Type 0 where
-  pub once : is_single event ≡ true → (r : Option ℤ) → is_met w (entry_first clocks event r) ≡ false
-  pub each : is_single event ≡ false → (o : Entry) → IsOf clocks event o → Meets w o → IsStartedBy floor o → ⊥
+-- an occurrence begins at an instant or later, if there is one, and no override replaces it
+pub record IsKeptFrom (files : List FileSaid) (display : Clock) (floor : Option ℤ) (o : Entry) : Type 0 where
+  pub started : IsStartedBy floor o
+  pub kept : IsUnreplaced files display o
 
--- if the span at a place cannot meet a window, no occurrence does of the version there from an instant on
+-- No occurrence of the event that is asked for meets a window: of one that starts once that at its DTSTART, whatever instance that is.
+pub record NoneMeets (clocks : Clocks) (event : Event) (w : Window) (IsAsked : Entry → Type 0) : Type 0 where
+  pub once : is_single event ≡ true → (r : Option ℤ) → is_met w (entry_first clocks event r) ≡ false
+  pub each : is_single event ≡ false → (o : Entry) → IsOf clocks event o → Meets w o → IsAsked o → ⊥
+
+-- If the span cannot meet a window, no occurrence of the event that is asked for does. No such occurrence of one that recurs begins before the span.
+pub record IsSpanOf (clocks : Clocks) (event : Event) (w : Window) (IsAsked : Entry → Type 0) (s : Span) : Type 0 where
+  pub none : can_meet s w ≡ false → NoneMeets clocks event w IsAsked
+  pub first : is_single event ≡ false → (o : Entry) → IsOf clocks event o → Meets w o → IsAsked o → occurrence_first ≤ℤ o.start → s.first ≤ℤ o.start
+
+-- the span at a place is that of the event of the version there
 abbrev pub AreSpans : List FileSaid → Clock → Window → Option ℤ → List Label → List Span → Type 0
 AreSpans files display w floor labels spans =
     (k : ℕ) (s : Span) (l : Label) (event : Event) → slice_get spans k ≡ Some s → slice_get labels k ≡ Some l → event_at files l.spot ≡ Some event
-    → can_meet s w ≡ false → NoneMeets (clocks_at files display l.spot.file) event w floor
+    → IsSpanOf (clocks_at files display l.spot.file) event w (IsKeptFrom files display floor) s
 
 -- a window begins no earlier than another, of the same kind
 pub record IsLater (w n : Window) : Type 0 where
@@ -105,10 +126,10 @@ IsSpanPut old place span new =
     (length new ≡ length old)
     × ((k : ℕ) (s : Span) → slice_get new k ≡ Some s → (slice_get old k ≡ Some s) ⊎ ((k ≡ place) × (s ≡ span)))
 
--- of a series that begins by an instant and has nothing to come, the span at a place is the rest
+-- of a series that begins by an instant, or with the span at a place, and has nothing to come, that span is the rest
 pub record IsPutOff (clocks : Clocks) (event : Event) (w : Window) (since : ℤ) (floor : Option ℤ) (coming : List Entry) (old : List Span) (place : ℕ)
     (new : List Span) : Type 0 where
-  pub low : since ≤ℤ unwrap_or floor (negsuc 9_223_372_036_854_775_807)
+  pub low : since ≤ℤ int_max (unwrap_or floor always.first) (first_at old place)
   pub empty : coming ≡ []
   pub span : Span
   pub rest : IsRest clocks event w since span

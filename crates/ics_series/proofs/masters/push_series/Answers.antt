@@ -1,6 +1,6 @@
 use Rattle.std.proofs.lemmas.Grind.{common_steps}
 use Rattle.std.proofs.Common.{◌≡◌, List, [], ◌∷◌, ◌++◌, Vec, Global, Option, Some, map, get_or, option_map, refl, sym, subst}
-use Rattle.std.proofs.Common.{ap, ◌∙◌, arith, append-nil}
+use Rattle.std.proofs.Common.{ap, ◌∙◌, arith, append-nil, rules, to_z, of_z, w64}
 use Rattle.std.specs.List.{flat_map}
 use Rattle.std.proofs.lemmas.Int.{ints}
 use Rattle.std.proofs.lemmas.List.{map-append}
@@ -18,7 +18,8 @@ use Rattle.ics_series.specs.AgendaParts.{part_coming, part_sources}
 use Rattle.ics_listing.specs.Entry.{key_rank}
 use Rattle.ics_starts.specs.FileZones.{clocks_in}
 use Rattle.ics_series.specs.Inner.Marks.{AreMarks}
-use Rattle.ics_series.specs.Inner.Spans.{is_out, AreMovedOn, IsMovedOn}
+use Rattle.ics_series.specs.Inner.Masters.{AreFrom}
+use Rattle.ics_series.specs.Inner.Spans.{first_at, is_out, AreMovedOn, IsMovedOn}
 use Rattle.ics_starts.specs.SeriesFeed.{series_left, series_of, series_sources}
 use Rattle.ics_series.proofs.MarkLemmas.{mark-of, marks-put, own-mark}
 use Rattle.ics_series.proofs.OverrideLemmas.{any_version}
@@ -26,7 +27,7 @@ use Rattle.ics_series.proofs.RecurringLemmas.{not-single}
 use Rattle.ics_starts.proofs.SameLemmas.{same-sources}
 use Rattle.ics_series.proofs.SourceLemmas.{versions-all, versions-more, versions-none, versions-skip, sources-all, sources-more}
 use Rattle.ics_series.proofs.SourceLemmas.{sources-skip}
-use Rattle.ics_series.proofs.SpanLemmas.{out-version, series-moved}
+use Rattle.ics_series.proofs.SpanLemmas.{come-first, out-version, series-moved}
 use Rattle.ics_series.proofs.VersionLemmas.{stands}
 use Rattle.ics_series.proofs.masters.push_series.Goals as goal
 use Rattle.ics_series.proofs.masters.push_series.Goals.{In_ok-series, in-Some+in_ok-move_on+in_ok-new+in_ok-push, in_default}
@@ -176,3 +177,16 @@ series_at-requires-clause-chosen c = grind (arith, common_steps)
 
 pub series_at-requires-clause-within : goal.series_at-requires-clause-within
 series_at-requires-clause-within c = grind (arith, common_steps)
+
+pub series_at-requires-clause-begin : goal.series_at-requires-clause-begin
+series_at-requires-clause-begin c version there =
+    let vs = c.args.chosen.now in
+    let k = c.loop-place.place in
+    let files = map said_by c.args.files.now in
+    let display = display_clock c.args.display.now in
+    let are = c.loop-place.invariant.spans.still c.args.window (record { from = omega (arith, ints); same = refl }) c.requires.spans in
+    let fits : to_z w64 (of_z w64 c.first_at-begin.result) ≡ c.first_at-begin.result = search rules in
+    let first : c.first_at-begin.result ≡ first_at c.loop-place.spans.items k = search rules in
+    subst (AreFrom files display c.args.window (option_map (λ key. key_rank key.now) c.args.after) (seen version)) (sym (fits ∙ first))
+    (come-first files display c.args.window (map seen vs) c.loop-place.spans.items are k (slice_get-map seen vs k ∙ ap (option_map seen) there)
+    (option_map (λ key. key_rank key.now) c.args.after) c.requires.floor)

@@ -10,13 +10,15 @@ use Rattle.ics_starts.specs.RuleMarks.{IsCountMark, IsMarkOf}
 use Rattle.ics_fields.specs.Locals.{local_seconds, whole_days}
 use Rattle.ics_listing.specs.declared.window.Window.{Window}
 use Rattle.ics_starts.specs.Clocks.{clock_of, IsBounded}
-use Rattle.ics_starts.specs.Leeway.{seconds_back, seconds_late, seconds_off}
+use Rattle.ics_starts.specs.Leeway.{late_within, seconds_back, seconds_off}
 use Rattle.ics_starts.specs.SeriesStarts.{first_asked, AreTooEarly}
 use Rattle.ics_listing.specs.StartTimes.{local_of}
 use Rattle.ics_starts.specs.Starts.{recurrence_of}
 use Rattle.ics_starts.specs.FileZones.{clocks_in, IsTimeOf}
 use Rattle.ics_listing.proofs.Cases.{moment-back}
+use Rattle.ics_starts.proofs.InstantLemmas.{bounds-apart}
 use Rattle.ics_starts.proofs.SettledLemmas.{early-local}
+use Rattle.ics_starts.proofs.SoughtLemmas.{late-event}
 use Rattle.ics_listing.proofs.StartOrderLemmas.{calendar-day, number-seconds, own-day}
 use Rattle.ics_starts.proofs.series.starts_by_rule.Goals as goal
 
@@ -25,11 +27,11 @@ to-later w = omega (arith, ints, w.not_early, w.ordered, w.not_late)
 
 -- where reading begins
 module _ (own first late least : ℤ) where
-  late-by : (off : ℤ) {from : ℤ} → (pos 0 -ℤ off) ≤ℤ least → int_max own (first -ℤ ((late -ℤ least) +ℤ whole_days 1)) ≤ℤ from →
-      int_max own (first -ℤ ((off +ℤ late) +ℤ whole_days 1)) ≤ℤ from
-  late-by off l h =
+  late-by : (off : ℤ) {most from : ℤ} → late ≤ℤ most → (pos 0 -ℤ off) ≤ℤ least → int_max own (first -ℤ ((late -ℤ least) +ℤ whole_days 1)) ≤ℤ from →
+      int_max own (first -ℤ ((off +ℤ most) +ℤ whole_days 1)) ≤ℤ from
+  late-by off {most = most} late-most l h =
       let more = int_max_is own (first -ℤ ((late -ℤ least) +ℤ whole_days 1)) in
-      omega (arith, ints, l, h, more, int_max_is own (first -ℤ ((off +ℤ late) +ℤ whole_days 1)))
+      omega (arith, ints, late-most, l, h, more, int_max_is own (first -ℤ ((off +ℤ most) +ℤ whole_days 1)))
 
   low-by : {from moment : ℤ} {a b n : ℕ} → from ≤ℤ int_max own (first -ℤ (late -ℤ least)) → pos a ≡ own +ℤ pos 62_167_219_200
       → pos b ≡ from +ℤ pos 62_167_219_200 → a ≤ n → n < b → moment ≤ℤ (pos n -ℤ pos 62_167_219_200 -ℤ least) → moment <ℤ (first -ℤ late)
@@ -47,7 +49,15 @@ pub bounds-bounds-requires : goal.bounds-bounds-requires
 bounds-bounds-requires c = subst (λ (v : Event). IsTimeOf c.args.zones.zones.now v.start) (sym c.event.view_is) c.requires.event.start
 
 pub seconds_back-requires : goal.seconds_back-requires
-seconds_back-requires c = let short = c.bounds-bounds.ensures.bounded.least_short in (omega (arith, ints, short), omega (arith, ints, short))
+seconds_back-requires c =
+    let b = c.bounds-bounds.result in
+    let bounded = c.bounds-bounds.ensures.bounded in
+    let apart = bounds-apart b bounded in
+    record {
+      least = (omega (arith, ints, bounded.least_short), omega (arith, ints, bounded.least_short));
+      most = (omega (arith, ints, bounded.most_short), omega (arith, ints, bounded.most_short));
+      order = omega (arith, ints, apart.0);
+    }
 
 pub first_nearby-from-requires-clause-late : goal.first_nearby-from-requires-clause-late
 first_nearby-from-requires-clause-late c =
@@ -88,8 +98,8 @@ returns c =
     c.bounds-bounds.ensures.bounded in
     let off = subst (λ (v : Event). (pos 0 -ℤ seconds_off v.start.stamp) ≤ℤ c.bounds-bounds.result.least) c.event.view_is c.bounds-bounds.ensures.least in
     let more = c.seconds_back.ensures in
-    let back : to_z w64 (of_z w64 c.seconds_back.result) ≡ seconds_late event -ℤ c.bounds-bounds.result.least =
-    omega (arith, ints, more.value, more.least, more.most, bounded.least_short) in
+    let back : to_z w64 (of_z w64 c.seconds_back.result) ≡ late_within b event -ℤ b.least = omega (arith, ints, more.value, more.least, more.most) in
+    let ends = late-event c.args.zones c.args.window event b bounded in
     let at = ap (λ (l : Local). local_seconds l) local in
     let begun = local_of event.start.stamp in
     let own = number-seconds begun (calendar-day begun.day (own-day event.start c.requires.event.start.is_time)) in
@@ -99,11 +109,11 @@ returns c =
     let from-low = subst (λ x. local_seconds c.first_nearby-from.result ≤ℤ x) (λ i. int_max (at i) (first i -ℤ back i)) from.ensures.low in
     let late : int_max (local_seconds (local_of event.start.stamp))
     (first_asked clocks c.args.window event c.args.since c.args.listed.now -ℤ (seconds_back event +ℤ whole_days 1)) ≤ℤ local_seconds from.result =
-    late-by (local_seconds begun) (first_asked clocks c.args.window event c.args.since c.args.listed.now) (seconds_late event) b.least
-    (seconds_off event.start.stamp) off from-late in
-    let low : AreTooEarly clocks event from.result (first_asked clocks c.args.window event c.args.since c.args.listed.now) =
+    late-by (local_seconds begun) (first_asked clocks c.args.window event c.args.since c.args.listed.now) (late_within b event) b.least
+    (seconds_off event.start.stamp) ends.1 off from-late in
+    let low : AreTooEarly clocks event from.result (first_asked clocks c.args.window event c.args.since c.args.listed.now -ℤ late_within b event) =
     λ n on before.
-    low-by (local_seconds begun) (first_asked clocks c.args.window event c.args.since c.args.listed.now) (seconds_late event) b.least from-low own there
+    low-by (local_seconds begun) (first_asked clocks c.args.window event c.args.since c.args.listed.now) (late_within b event) b.least from-low own there
     on before (early-local c.args.zones event b bounded n) in
     record {
       own = record {
@@ -112,13 +122,15 @@ returns c =
         window_is = c.new.ensures.window;
         day = rw c.new.ensures.from c.first_nearby-from.ensures.day;
         late = rw c.new.ensures.from late;
-        low = rw c.new.ensures.from low;
+        low = rw c.new.ensures.from (λ n on before. let less = low n on before in omega (arith, ints, less, ends.0));
       };
       from = record {
         rule = c.new-rule.result;
         has = search rules;
         from = c.first_nearby-from.result;
         day = c.first_nearby-from.ensures.day;
+        bounds = b;
+        bounded = bounded;
         low = low;
         gives = c.new.ensures.left;
       };

@@ -1,4 +1,4 @@
-use Rattle.std.proofs.Common.{◌∙◌, [], ◌∷◌, ◌++◌, List, filter, map, ap, option_map, refl, sym, subst}
+use Rattle.std.proofs.Common.{◌∙◌, [], ◌∷◌, ◌++◌, List, map, ap, option_map, refl, sym, subst}
 use Rattle.ics_file.specs.File.{said_by}
 use Rattle.ics_series.specs.declared.part.Part.TheVariants as part
 use Rattle.ics_starts.specs.Clocks.{display_clock}
@@ -6,10 +6,8 @@ use Rattle.ics_listing.specs.Entry.{entry_cmp, key_rank, Entry}
 use Rattle.ics_series.specs.AgendaParts.{part_coming}
 use Rattle.ics_listing.specs.Listing.{IsListing}
 use Rattle.ics_series.specs.Meets.{IsToCome}
-use Rattle.ics_series.specs.Overridden.{is_kept}
 use Rattle.ics_series.specs.Sources.{AreApart}
 use Rattle.ics_series.specs.Versions.{seen}
-use Rattle.ics_series.proofs.OverrideLemmas.{overrides-sorted}
 use Rattle.ics_series.proofs.SinglesLemmas.{pushed-listing}
 use Rattle.ics_series.proofs.UidLemmas.{parts-sorted}
 use Rattle.ics_series.proofs.SourceLemmas.{sources-behind}
@@ -32,7 +30,6 @@ invariant_of-result c =
     let items = c.in_ok-push.ensures.items ∙ ap (λ xs. xs ++ part.Singles c.in_ok-singles.singles ∷ []) c.new-parts.ensures.items in
     let sources = rw items at c.in_ok-push_series.ensures.sources in
     record {
-      in_order = overrides-sorted c.in_ok-overrides.overrides.items c.requires.chosen c.in_ok-overrides.ensures;
       apart = subst AreApart (sym c.in_ok-merge.ensures.sources) (sources-behind c.requires.chosen sources).apart;
     }
 
@@ -51,10 +48,9 @@ returns c =
           subst
           (λ (xs : List Entry). IsListing entry_cmp
           (IsToCome (map said_by c.args.files.now) (display_clock c.args.display.now) c.args.window (option_map (λ key. key_rank key.now) c.args.after))
-          (filter (is_kept (map seen c.in_ok-overrides.overrides.items)) xs))
+          xs)
           (sym c.in_ok-merge.ensures.coming)
-          (pushed-listing files display c.args.window after c.in_ok-overrides.overrides.items singles c.requires.chosen c.in_ok-overrides.ensures
-          c.in_ok-singles.ensures pushed);
+          (pushed-listing files display c.args.window after singles c.requires.chosen c.in_ok-singles.ensures pushed);
       spans = c.push_series.ensures.spans;
       marks = c.push_series.ensures.marks;
     }

@@ -37,13 +37,6 @@ returns-then-self-clause-ok c = λ list a.
     (agenda_coming new.today.agenda) (c.in_ok-occurrence.ensures.none none) gives.0 gives.1 in
     (gives.0, (gives.2 ∙ ended, ended), gives.1)
 
-pub returns-in_err-end_day-clause-err : goal.returns-in_err-end_day-clause-err
-returns-in_err-end_day-clause-err c = λ list a.
-    let none : c.in_ok-occurrence.field-0 ≡ None = search rules in
-    let gives = rw none at (c.in_ok-occurrence.ensures.ok list (c.loop-occurrence.invariant.ahead list a)) in
-    on-err (IsAhead c.end_day.new.self list) c.from_residual-in_err-end_day.result
-    (c.end_day.ensures.ahead list (subst (λ l. IsAhead c.next_today.new.self l) (sym gives.2) gives.1))
-
 pub returns-in_err-turn-clause-err : goal.returns-in_err-turn-clause-err
 returns-in_err-turn-clause-err c = λ list a.
     let none : c.in_ok-occurrence.field-0 ≡ None = search rules in

@@ -1,5 +1,4 @@
-use Rattle.std.proofs.Common.{◌≡◌, ◌&&◌, List, map, rules, sym, ◌∙◌, subst, to_z, of_z, w32}
-use Rattle.std.proofs.lemmas.Bool.{and_parts}
+use Rattle.std.proofs.Common.{◌≡◌, List, map, rules, sym, ◌∙◌, subst, to_z, of_z, w32}
 use Rattle.ics_fields.specs.Days.{IsDayNumber}
 use Rattle.ics_file.specs.File.{said_by}
 use Rattle.ics_series.specs.Ahead.{agenda_coming}
@@ -10,15 +9,14 @@ use Rattle.ics_series.specs.DaySteps.{scope_in, IsLookedBefore}
 use Rattle.ics_series.proofs.AheadLemmas.{ahead-given, ahead-skipped}
 use Rattle.ics_series.proofs.days.Days.next_today.Goals as goal
 
-pub returns-then-met-on-clause-ok : goal.returns-then-met-on-clause-ok
-returns-then-met-on-clause-ok c = λ list a.
+pub returns-then-today-clause-ok : goal.returns-then-today-clause-ok
+returns-then-today-clause-ok c = λ list a.
     let self = c.loop-occurrence.self in
     let gives = rw c.in-Some.is at c.in_ok-occurrence.ensures.ok in
     let fits : to_z w32 (of_z w32 c.loop-occurrence.self.today.day) ≡ c.loop-occurrence.self.today.day = search rules in
-    let on = rw fits at c.is_on-on.ensures.on in
     ahead-given (map said_by self.files.now) (display_clock self.display.now) self.window self.today.day (entry_of c.in-Some.occurrence)
     (agenda_coming self.today.agenda) (agenda_coming c.next.new.self) gives
-    (sym (λ i. c.is_met-met.ensures i && on i) ∙ c.if-met-on.true) list (c.loop-occurrence.invariant.ahead list a)
+    (sym (rw fits at c.is_today-today.ensures.today) ∙ c.if-today.true) list (c.loop-occurrence.invariant.ahead list a)
 
 pub loop-occurrence-preserved : goal.loop-occurrence-preserved
 loop-occurrence-preserved c = record {
@@ -30,16 +28,15 @@ loop-occurrence-preserved c = record {
       let self = c.loop-occurrence.self in
       let gives = rw c.in-Some.is at c.in_ok-occurrence.ensures.ok in
       let fits : to_z w32 (of_z w32 c.loop-occurrence.self.today.day) ≡ c.loop-occurrence.self.today.day = search rules in
-      let on = rw fits at c.is_on-on.ensures.on in
       ahead-skipped (map said_by self.files.now) (display_clock self.display.now) self.window self.today.day (entry_of c.in-Some.occurrence)
       (agenda_coming self.today.agenda) (agenda_coming c.next.new.self) gives
-      (sym (λ i. c.is_met-met.ensures i && on i) ∙ c.if-met-on.false) list (c.loop-occurrence.invariant.ahead list a);
+      (sym (rw fits at c.is_today-today.ensures.today) ∙ c.if-today.false) list (c.loop-occurrence.invariant.ahead list a);
 }
 
-pub returns-then-met-on-clause-within : goal.returns-then-met-on-clause-within
-returns-then-met-on-clause-within c =
+pub returns-then-today-clause-within : goal.returns-then-today-clause-within
+returns-then-today-clause-within c =
     let fits : to_z w32 (of_z w32 c.loop-occurrence.self.today.day) ≡ c.loop-occurrence.self.today.day = search rules in
-    subst IsDayNumber fits (c.is_on-on.ensures.within (and_parts c.is_met-met.result c.is_on-on.result c.if-met-on.true).1)
+    subst IsDayNumber fits (c.is_today-today.ensures.within c.if-today.true)
 
 pub invariant_of-self-clause-before : goal.invariant_of-self-clause-before
 invariant_of-self-clause-before c =

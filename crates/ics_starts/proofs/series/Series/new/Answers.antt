@@ -145,8 +145,8 @@ module _ (zones : FileZones) (w : Window) (event : Event) where
           let near = instant-near zones (time_at event.start local) in
           let at = written-at event.start.stamp local in
           let first = kept-first clocks event sound.start local own in
-          let back = sought-from zones w event (moment local) s in
-          let late-most = late-event zones w event in
+          let back = sought-from zones w event r.bounds r.bounded (moment local) s in
+          let late-least = (late-event zones w event r.bounds r.bounded).0 in
           let begun = local_of event.start.stamp in
           let on : number (local_of event.start.stamp) ≤ number local =
           omega (arith, ints, first, number-seconds begun (calendar-day begun.day (own-day event.start sound.start)), number-seconds local day) in
@@ -154,7 +154,7 @@ module _ (zones : FileZones) (w : Window) (event : Event) where
           let from : number r.from ≤ number local = elim (cases_lt (number local) (number r.from)) [
             | inl before ↦ absurd (
                 let low = r.low (number local) on before in
-                omega (arith, ints, int_max_is, int_min_is, low, same, back, late-most, late)
+                omega (arith, ints, int_max_is, int_min_is, low, same, back, late-least, late)
                 )
             | inr past ↦ past
           ] in
@@ -215,17 +215,17 @@ module _ (zones : FileZones) (w : Window) (event : Event) where
       }
 
     -- Where an occurrence begins at the instant of a local that DTSTART has or the rule keeps, the rule has a start there.
-    has-ruled : (o : Option RuleStarts) (coming : List Entry) → IsRuled clocks event w since apart o
-        → IsListing entry_cmp (IsSeriesMet clocks event w since) coming → HasRuled clocks event o coming
-    has-ruled None coming r l = tt
-    has-ruled (Some starts) coming r l = λ o m local k.
+    has-ruled : (replaced : List ℤ) (o : Option RuleStarts) (coming : List Entry) → IsRuled clocks event w since apart o
+        → IsListing entry_cmp (IsSeriesMet clocks event w since replaced) coming → HasRuled clocks event o coming
+    has-ruled replaced None coming r l = tt
+    has-ruled replaced (Some starts) coming r l = λ o m local k.
         let met = (l.exact o).0 m in
         let of = met.0.0.lasts in
         let is : o ≡ entry_from clocks event of.given =
         same-entry o (entry_from clocks event of.given) of.starts of.ends (met.0.0.recurrence ∙ of.starts) met.0.0.event in
         let sought : IsSought clocks event w o.start =
         record { source = of.source; given = of.given; gives = of.gives; starts = sym of.starts; meets = subst (Meets w) is met.0.1 } in
-        let has = ruled (starts_left starts) (by-rdates r) local k.0 (rw (← k.1) at sought) (rw (← k.1) at met.1) in
+        let has = ruled (starts_left starts) (by-rdates r) local k.0 (rw (← k.1) at sought) (rw (← k.1) at met.1.0) in
         in-moment has.start o.start (starts_left starts) (has.same ∙ k.1) has.stands
 
 pub starts_by_rule-rule_starts-requires-clause-listed : goal.starts_by_rule-rule_starts-requires-clause-listed
@@ -248,7 +248,8 @@ invariant_of-result c =
     let firsts = rw c.in_ok-listed.ensures at c.in_ok-new.ensures in
     let ruled = rw (since, c.deref.ensures.value ∙ c.in_ok-listed.ensures) at c.starts_by_rule-rule_starts.ensures.from in
     let starts = starts-since c.args.zones w event sound c.args.since (listed_left c.in_ok-new.field-0) firsts c.starts_by_rule-rule_starts.result ruled in
-    let listing = series-listing clocks w event c.args.since (left c.starts_by_rule-rule_starts.result c.in_ok-new.field-0) starts in
+    let listing = series-listing clocks w event c.args.since c.args.replaced.instants.items
+    (left c.starts_by_rule-rule_starts.result c.in_ok-new.field-0) starts in
     record {
       first_is = tt;
       own = c.requires.own;
@@ -257,8 +258,8 @@ invariant_of-result c =
       known = λ s m. start-in c.args.zones w event c.requires.own s (starts.are s m);
       listed_known = λ s m. start-in c.args.zones w event c.requires.own s (start-apart c.args.zones w event event.rule s (firsts.are s m));
       ruled = rw since
-          (has-ruled c.args.zones w event sound c.args.since c.starts_by_rule-rule_starts.result
-          (given_of clocks w event c.args.since (left c.starts_by_rule-rule_starts.result c.in_ok-new.field-0)) ruled listing);
+          (has-ruled c.args.zones w event sound c.args.since c.args.replaced.instants.items c.starts_by_rule-rule_starts.result
+          (given_of clocks w event c.args.since c.args.replaced.instants.items (left c.starts_by_rule-rule_starts.result c.in_ok-new.field-0)) ruled listing);
       own_rule = subst (λ xs. HasOwnRule c.args.zones event w (first_asked clocks w event (to_z w64 (of_z w64 c.args.since)) xs)
           c.starts_by_rule-rule_starts.result) (c.deref.ensures.value ∙ c.in_ok-listed.ensures) c.starts_by_rule-rule_starts.ensures.own;
       rising = rw since listing.rises;
@@ -277,7 +278,7 @@ returns c =
     let starts = starts-since c.args.zones w event sound c.args.since (listed_left c.in_ok-new.field-0) firsts c.starts_by_rule-rule_starts.result ruled in
     record {
       listing = rw since
-          (series-listing clocks w event c.args.since (left c.starts_by_rule-rule_starts.result c.in_ok-new.field-0) starts);
+          (series-listing clocks w event c.args.since c.args.replaced.instants.items (left c.starts_by_rule-rule_starts.result c.in_ok-new.field-0) starts);
       sources = ap (source_of clocks event w) since;
       begun = c.starts_by_rule-rule_starts.ensures.begun;
     }

@@ -23,7 +23,7 @@ invariant_of-self c =
       ends_are = s.ends_are;
       known = rest-of taken s.known;
       listed_known = λ t m. s.listed_known t (in-cut moment_cmp moment_total start t (listed_left s.listed) (subst (IsIn t) c.pass.ensures m));
-      ruled = ruled-rest (clocks_in s.zones) s.window s.event.now s.since s.rule_starts c.pass_rule.new.rule
+      ruled = ruled-rest (clocks_in s.zones) s.window s.event.now s.since s.replaced.instants.items s.rule_starts c.pass_rule.new.rule
           c.pass_rule.ensures.rule c.pass_rule.ensures.left (record {
             is = taken;
             rises = rises-union moment_cmp moment_total (rule_left s.rule_starts) (listed_left s.listed) (rises-listed s.listed);
@@ -32,13 +32,13 @@ invariant_of-self c =
           s.ruled;
       own_rule = own-rule-same s.zones s.event.now s.window (first_of (clocks_in s.zones) s.window s.event.now s.since) s.rule_starts
           c.pass_rule.new.rule c.pass_rule.ensures.rule s.own_rule;
-      rising = rises-rest (clocks_in s.zones) s.window s.event.now s.since taken s.rising;
+      rising = rises-rest (clocks_in s.zones) s.window s.event.now s.since s.replaced.instants.items taken s.rising;
     }
 
 pub returns : goal.returns
 returns c =
     let s = c.args.self.now in record {
       taken = rw (c.pass_rule.ensures.left, c.pass.ensures) c.requires.first;
-      same = record { zones = refl; event = refl; window = refl; since = refl; rule = c.pass_rule.ensures.rule };
+      same = record { zones = refl; event = refl; window = refl; since = refl; replaced = refl; rule = c.pass_rule.ensures.rule };
       near = λ o m. rw c.pass_rule.ensures.asked (series-near s o m);
     }

@@ -76,6 +76,6 @@ returns c =
     record {
       coming = k.coming;
       fewer = k.fewer;
-      same = record { zones = refl; event = refl; window = refl; since = refl; rule = k.same };
+      same = record { zones = refl; event = refl; window = refl; since = refl; replaced = refl; rule = k.same };
       steps = k.steps;
     }

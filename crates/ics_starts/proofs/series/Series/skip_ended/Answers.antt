@@ -1,4 +1,4 @@
-use Rattle.std.proofs.Common.{◌≤ℤ◌, ℤ, Option, ◌∙◌, refl, sym, subst, arith}
+use Rattle.std.proofs.Common.{◌≤ℤ◌, ℤ, Option, refl, sym, subst, arith}
 use Rattle.std.proofs.lemmas.Int.{int_min_is, ints}
 use Rattle.ics_listing.specs.Entry.{entry_cmp}
 use Rattle.ics_listing.specs.KnownStarts.{listed_left}
@@ -7,15 +7,15 @@ use Rattle.ics_listing.specs.Rising.{Rises}
 use Rattle.ics_listing.specs.declared.start.Start.{Start}
 use Rattle.ics_listing.proofs.Cases.{moment-back}
 use Rattle.ics_starts.specs.FileZones.{clocks_in}
-use Rattle.ics_starts.specs.SeriesStarts.{first_given, first_of, AreEnded}
+use Rattle.ics_starts.specs.SeriesStarts.{first_of, AreEnded, IsFirstGiven}
 use Rattle.ics_starts.specs.declared.rule_starts.RuleStarts.{RuleStarts}
 use Rattle.ics_starts.specs.declared.series.Series.{Series}
-use Rattle.ics_starts.proofs.EndedLemmas.{ended-test}
+use Rattle.ics_starts.proofs.EndedLemmas.{ended-test, given-sooner}
 use Rattle.ics_starts.proofs.PassedLemmas.{passed, IsSkipped}
 use Rattle.ics_starts.proofs.SeriesLemmas.{own-rule-same}
 use Rattle.ics_starts.proofs.series.Series.skip_ended.Goals as goal
 
-ended : (s : Series) {to known : ℤ} (rule : Option RuleStarts) → to ≤ℤ first_given (clocks_in s.zones) s.window s.event.now s.since → to ≤ℤ known
+ended : (s : Series) {to known : ℤ} (rule : Option RuleStarts) → IsFirstGiven (clocks_in s.zones) s.window s.event.now s.since to → to ≤ℤ known
     → ((t : Start) → IsIn t (listed_left s.listed) → known ≤ℤ t.moment) → AreEnded to s.rule_starts rule → IsSkipped s rule
 ended s {to = to} {known = known} rule first early listed passes =
     passed s (ended-test s to first (λ t m. let late = listed t m in omega (arith, ints, early, late))) rule passes
@@ -24,10 +24,12 @@ pub invariant_of-self : goal.invariant_of-self
 invariant_of-self c =
     let s = c.args.self.now in
     let min = c.min in
-    let k = ended s c.pass_rule_before.new.rule (omega (arith, ints, int_min_is, min.ensures.value, min.type_inv, c.first_given-first.ensures))
+    let k = ended s c.pass_rule_before.new.rule
+    (given-sooner s.zones s.window s.event.now s.since (omega (arith, ints, int_min_is, min.ensures.value, min.type_inv)) c.first_given-first.ensures)
     (omega (arith, ints, int_min_is, min.ensures.value, min.type_inv)) c.listed_from-listed.ensures c.pass_rule_before.ensures in
     record {
-      first_is = moment-back c.first_given-first.result c.first_given-first.type_inv ∙ c.first_given-first.ensures;
+      first_is = subst (IsFirstGiven (clocks_in s.zones) s.window s.event.now s.since)
+          (sym (moment-back c.first_given-first.result c.first_given-first.type_inv)) c.first_given-first.ensures;
       own = s.own;
       taken_out = s.taken_out;
       ends_are = s.ends_are;
@@ -43,11 +45,12 @@ pub returns : goal.returns
 returns c =
     let s = c.args.self.now in
     let min = c.min in
-    let k = ended s c.pass_rule_before.new.rule (omega (arith, ints, int_min_is, min.ensures.value, min.type_inv, c.first_given-first.ensures))
+    let k = ended s c.pass_rule_before.new.rule
+    (given-sooner s.zones s.window s.event.now s.since (omega (arith, ints, int_min_is, min.ensures.value, min.type_inv)) c.first_given-first.ensures)
     (omega (arith, ints, int_min_is, min.ensures.value, min.type_inv)) c.listed_from-listed.ensures c.pass_rule_before.ensures in
     record {
       coming = k.coming;
       fewer = k.fewer;
-      same = record { zones = refl; event = refl; window = refl; since = refl; rule = k.same };
+      same = record { zones = refl; event = refl; window = refl; since = refl; replaced = refl; rule = k.same };
       steps = k.steps;
     }

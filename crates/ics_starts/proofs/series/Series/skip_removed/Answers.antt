@@ -33,6 +33,6 @@ returns-in_default c =
     record {
       coming = k.coming;
       fewer = k.fewer;
-      same = record { zones = refl; event = refl; window = refl; since = refl; rule = k.same };
+      same = record { zones = refl; event = refl; window = refl; since = refl; replaced = refl; rule = k.same };
       steps = k.steps;
     }

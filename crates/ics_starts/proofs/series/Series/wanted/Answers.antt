@@ -1,5 +1,5 @@
-use Rattle.std.proofs.Common.{◌≡◌, ◌<ℤ◌, ◌≤ℤ◌, ℤ, Bool, ◌&&◌, not, int_le, if◌then◌else◌, List, w64, to_z, of_z, None, Some, option_map, sym, ◌∙◌}
-use Rattle.std.proofs.Common.{ap, subst, arith}
+use Rattle.std.proofs.Common.{◌≡◌, ◌<ℤ◌, ◌≤ℤ◌, ℤ, Bool, true, false, ◌&&◌, ◌||◌, not, int_le, if◌then◌else◌, List, w64, to_z, of_z, None, Some}
+use Rattle.std.proofs.Common.{option_map, sym, ◌∙◌, ap, subst, arith, rules}
 use Rattle.std.proofs.lemmas.Int.{ints}
 use Rattle.std.proofs.lemmas.Option.{cond_some}
 use Rattle.ics_event.specs.declared.event.Event.{Event}
@@ -9,34 +9,41 @@ use Rattle.ics_listing.specs.declared.window.Window.{Window}
 use Rattle.ics_listing.specs.FileClocks.{Clocks}
 use Rattle.ics_starts.specs.Clocks.{clock_of, instant}
 use Rattle.ics_listing.specs.Entry.{Entry, entry_of}
-use Rattle.ics_starts.specs.Exclusions.{is_excluded, takes_out, AreExclusions}
+use Rattle.ics_starts.specs.Exclusions.{is_among, is_excluded, takes_out, AreExclusions}
 use Rattle.ics_starts.specs.Found.{met_by}
 use Rattle.ics_starts.specs.Meeting.{entry_from}
 use Rattle.ics_listing.specs.WindowMeeting.{is_met}
-use Rattle.ics_starts.specs.SeriesStarts.{wanted_by}
+use Rattle.ics_starts.specs.SeriesStarts.{is_left_out, wanted_by}
 use Rattle.ics_listing.specs.StartTimes.{time_of}
 use Rattle.ics_starts.specs.FileZones.{clocks_in}
 use Rattle.ics_starts.proofs.MeetsLemmas.{is_met-meets}
 use Rattle.ics_zone.proofs.Cases.{true_int_le}
 use Rattle.ics_starts.proofs.series.Series.wanted.Goals as goal
 
-module _ (clocks : Clocks) (w : Window) (event : Event) (since : ℤ) (s : Start) where
+module _ (clocks : Clocks) (w : Window) (event : Event) (since : ℤ) (replaced : List ℤ) (s : Start) where
   abbrev from : Entry
   from = entry_from clocks event s.given
 
-  unmet : met_by clocks w event s ≡ None → wanted_by clocks w event since s ≡ None
-  unmet e = by (int_le since from.start) (is_met w from) (is_excluded clocks event from.start) e
+  -- where others replace it, nothing is wanted
+  given-up : is_among replaced from.start ≡ true → wanted_by clocks w event since replaced s ≡ None
+  given-up e = by (int_le since from.start) (is_met w from) (is_excluded clocks event from.start) (is_among replaced from.start) e
+    where
+      by : (a b c d : Bool) → d ≡ true → (if a && (b && not (c || d)) then Some from else None) ≡ None
+      by a b c d e = grind arith
+
+  unmet : met_by clocks w event s ≡ None → wanted_by clocks w event since replaced s ≡ None
+  unmet e = by (int_le since from.start) (is_met w from) (is_left_out clocks event replaced from.start) e
     where
       by : (a b c : Bool) → (if b then Some from else None) ≡ None → (if a && (b && not c) then Some from else None) ≡ None
       by a b c e = grind arith
 
-  -- of what meets the window and is not too early, all is wanted but what an EXDATE takes out
-  not-out : {out : Bool} → since ≤ℤ from.start → is_excluded clocks event from.start ≡ out →
-      wanted_by clocks w event since s ≡ (if out then None else met_by clocks w event s)
-  not-out {out = out} late e =
-      (λ i. if true_int_le since from.start late i && (is_met w from && not (e i)) then Some from else None) ∙ by (is_met w from) out
+  -- of what meets the window and is not too early, all is wanted that others do not replace but what an EXDATE takes out
+  not-out : {out : Bool} → since ≤ℤ from.start → is_among replaced from.start ≡ false → is_excluded clocks event from.start ≡ out →
+      wanted_by clocks w event since replaced s ≡ (if out then None else met_by clocks w event s)
+  not-out {out = out} late apart e =
+      (λ i. if true_int_le since from.start late i && (is_met w from && not (e i || apart i)) then Some from else None) ∙ by (is_met w from) out
     where
-      by : (b c : Bool) → (if b && not c then Some from else None) ≡ (if c then None else if b then Some from else None)
+      by : (b c : Bool) → (if b && not (c || false) then Some from else None) ≡ (if c then None else if b then Some from else None)
       by b c = grind arith
 
   -- an occurrence that meets the window
@@ -55,30 +62,42 @@ module _ (clocks : Clocks) (w : Window) (event : Event) (since : ℤ) (s : Start
         sym (e ∙ (ap (λ (v : Event). takes_out (clock_of clocks v.start) instants days (to_z w64 (of_z w64 o.start))) same
         ∙ (ap (takes_out (clock_of clocks event.start) instants days) (fits ∙ begun.0) ∙ all from.start (subst (λ t. t <ℤ w.to) begun.0 begun.1))))
 
+pub returns-then-names : goal.returns-then-names
+returns-then-names c =
+    let s = c.args.self.now in
+    let fits : to_z w64 (of_z w64 c.args.start.moment) ≡ c.args.start.moment = search rules in
+    sym (given-up (clocks_in s.zones) s.window s.event.now s.since s.replaced.instants.items c.args.start
+    (subst (λ t. is_among s.replaced.instants.items t ≡ true) (fits ∙ c.requires.moment) (sym c.names.ensures ∙ c.if-names.true)))
+
 pub returns-in_err-occurrence : goal.returns-in_err-occurrence
 returns-in_err-occurrence c =
     let s = c.args.self.now in
     ap (option_map entry_of) c.from_residual.ensures
-    ∙ sym (unmet (clocks_in s.zones) s.window s.event.now s.since c.args.start (sym c.in_err-occurrence.ensures))
+    ∙ sym (unmet (clocks_in s.zones) s.window s.event.now s.since s.replaced.instants.items c.args.start (sym c.in_err-occurrence.ensures))
 
 pub has-requires-clause-early : goal.has-requires-clause-early
 has-requires-clause-early c =
     let s = c.args.self.now in
-    let start = begun (clocks_in s.zones) s.window s.event.now s.since c.args.start c.in_ok-occurrence.occurrence c.in_ok-occurrence.ensures in
+    let start = begun (clocks_in s.zones) s.window s.event.now s.since s.replaced.instants.items c.args.start c.in_ok-occurrence.occurrence
+    c.in_ok-occurrence.ensures in
     omega (arith, ints, c.type_inv.occurrence, start.1, s.window.not_late)
 
 pub returns-then-has : goal.returns-then-has
 returns-then-has c =
     let s = c.args.self.now in
-    let out = excluded (clocks_in s.zones) s.window s.event.now s.since c.args.start c.in_ok-occurrence.occurrence c.in_ok-occurrence.ensures _ _
-    c.event.view_is s.taken_out c.has.ensures in
-    sym (not-out (clocks_in s.zones) s.window s.event.now s.since c.args.start
-    (omega (arith, ints, c.requires.moment, c.if-start-self.false)) (out ∙ c.if-has.true))
+    let out = excluded (clocks_in s.zones) s.window s.event.now s.since s.replaced.instants.items c.args.start c.in_ok-occurrence.occurrence
+    c.in_ok-occurrence.ensures _ _ c.event.view_is s.taken_out c.has.ensures in
+    let fits : to_z w64 (of_z w64 c.args.start.moment) ≡ c.args.start.moment = search rules in
+    sym (not-out (clocks_in s.zones) s.window s.event.now s.since s.replaced.instants.items c.args.start
+    (omega (arith, ints, c.requires.moment, c.if-start-self.false))
+    (subst (λ t. is_among s.replaced.instants.items t ≡ false) (fits ∙ c.requires.moment) (sym c.names.ensures ∙ c.if-names.false)) (out ∙ c.if-has.true))
 
 pub returns-else-has : goal.returns-else-has
 returns-else-has c =
     let s = c.args.self.now in
-    let out = excluded (clocks_in s.zones) s.window s.event.now s.since c.args.start c.in_ok-occurrence.occurrence c.in_ok-occurrence.ensures _ _
-    c.event.view_is s.taken_out c.has.ensures in
-    c.in_ok-occurrence.ensures ∙ sym (not-out (clocks_in s.zones) s.window s.event.now s.since c.args.start
-    (omega (arith, ints, c.requires.moment, c.if-start-self.false)) (out ∙ c.if-has.false))
+    let out = excluded (clocks_in s.zones) s.window s.event.now s.since s.replaced.instants.items c.args.start c.in_ok-occurrence.occurrence
+    c.in_ok-occurrence.ensures _ _ c.event.view_is s.taken_out c.has.ensures in
+    let fits : to_z w64 (of_z w64 c.args.start.moment) ≡ c.args.start.moment = search rules in
+    c.in_ok-occurrence.ensures ∙ sym (not-out (clocks_in s.zones) s.window s.event.now s.since s.replaced.instants.items c.args.start
+    (omega (arith, ints, c.requires.moment, c.if-start-self.false))
+    (subst (λ t. is_among s.replaced.instants.items t ≡ false) (fits ∙ c.requires.moment) (sym c.names.ensures ∙ c.if-names.false)) (out ∙ c.if-has.false))
