@@ -5,7 +5,7 @@ import resource
 import time
 
 from folders import calendar
-from zones import APIA, BERLIN, SKIPPED, part, stamps, zone
+from zones import APIA, BERLIN, REPEATED, SKIPPED, part, stamps, zone
 
 ODD = ','.join(str(number) for number in range(1, 60, 2))
 MONTHS = ','.join(str(month) for month in range(1, 13))
@@ -104,6 +104,17 @@ def once(day):
     return [line for hour in ('09', '10') for line in ('BEGIN:VEVENT', 'UID:at ' + hour, 'DTSTART:%sT%s0000Z' % (day, hour), 'END:VEVENT')]
 
 
+def once_each(count, *more):
+    """So many events in the time zone that is called odd."""
+    return [line for number in range(count) for line in ('BEGIN:VEVENT', 'UID:%d' % number, 'DTSTART;TZID=odd:19500701T000000', *more, 'END:VEVENT')]
+
+
+def replaced():
+    """An event with a PERIOD of ages, and what replaces it behind them."""
+    return calendar(['BEGIN:VEVENT', 'UID:0', 'DTSTART:00010101T000000Z', 'RDATE;VALUE=PERIOD:00010102T000000Z/97900101T000000Z', 'END:VEVENT',
+                     'BEGIN:VEVENT', 'UID:0', 'RECURRENCE-ID:00010102T000000Z', 'DTSTART:97900101T000000Z', 'END:VEVENT'])
+
+
 def forward(after):
     """The clock goes forward to this offset, and back two days later."""
     return [part('STANDARD', '00010101T000000', '+0000', '+0000'), part('DAYLIGHT', '20240630T000000', '+0000', after),
@@ -173,6 +184,8 @@ SELDOM = 'FREQ=DAILY;COUNT=4294967295;INTERVAL=1009;BYWEEKNO=1'
 AGES = ['0001-01-05', '3570000d', '--every-day', '--limit', '1']
 QUARTER = ['2024-07-01', '92d', '--limit', '1']
 EXCLUDED = 'EXDATE;VALUE=DATE:' + ','.join('2024%02d%02d' % (month, day) for month in (7, 8, 9) for day in range(1, 32 - month // 9))
+LEAP_MONDAY = [part('STANDARD', '00010101T000000', '-2359', '+2359', 'RRULE:FREQ=YEARLY;BYYEARDAY=366;BYDAY=MO')]
+THIRTY = 'EXDATE;TZID=odd:' + ','.join('%04d0701T000000' % year for year in range(1600, 2200, 20))
 FAR = 'RDATE;TZID=odd:' + ','.join('%04d0701T120000' % year for year in range(2100, 8100, 150))
 
 # name, file, words, how many loops it may take, and how many MiB
@@ -198,9 +211,14 @@ ROWS = [
     ('80 in no week of their months', lambda: rules(80, 'FREQ=DAILY;' + LATE), ['0001-01-02', '9700-01-01'], 8, 32),
     ('8 on the 1st and a fifth Monday, each day', lambda: rules(8, 'FREQ=MONTHLY;BYMONTHDAY=1;BYDAY=5MO'), AGES, 8, 32),
     ('6 at one second in 86,399 days, each day', lambda: rules(6, 'FREQ=SECONDLY;INTERVAL=86399;BYMONTHDAY=1;' + by('1', '1', '1')), AGES, 8, 32),
+    ('one second in seven days, 36,525 days long, each day', lambda: rules(1, 'FREQ=SECONDLY;INTERVAL=604799;BYDAY=TU;' + by('1', '1', '1'), LONG),
+     ['0201-01-01', '3490000d', '--every-day', '--limit', '1'], 1, 32),
+    ('a PERIOD of ages that an override replaces, each day', replaced, AGES, 1, 32),
     ('one in 1,009 days, COUNT, each day', lambda: rules(1, SELDOM.replace('4294967295', '9')), ['2024-01-01', '366d', '--every-day'], 1, 32),
     ('82 on leap days in steps of 59 seconds, COUNT, in 9700',
      lambda: rules(82, 'FREQ=SECONDLY;INTERVAL=59;BYYEARDAY=366;BYHOUR=1;COUNT=999999'), ['9700-01-01', '1d', '--limit', '1'], 8, 32),
+    ('81 in three weeks in steps of 1,031 seconds, COUNT, in 9700',
+     lambda: rules(81, 'FREQ=SECONDLY;INTERVAL=1031;BYWEEKNO=1,9,19;COUNT=9999999'), ['9700-01-01', '1d', '--limit', '1'], 16, 32),
     ('8 observances that never begin', lambda: in_zone(ruled(8, 'FREQ=DAILY;' + LATE), '20240101T120000', FAR), DAY, 1, 32),
     ('an observance with COUNT', lambda: in_zone(ruled(1, SELDOM), '20240701T120000'), DAY, 1, 32),
     ('the same in 9700', lambda: in_zone(ruled(1, SELDOM), '97000701T120000'), ['9700-07-01', '1d'], 1, 32),
@@ -257,12 +275,23 @@ ROWS = [
     ('seconds by a clock that turns each second', lambda: since_0001(1, EACH_OTHER_SECOND), [*DAY, '--limit', '1'], 8, 32),
     ('12 events of seconds by it', lambda: since_0001(12, EACH_OTHER_SECOND), [*DAY, '--limit', '1'], 8, 32),
     ('a second each by a clock that turns each minute', lambda: since_0001(1, EACH_OTHER_MINUTE, 'DURATION:PT1S'), [*DAY, '--limit', '1'], 4, 32),
+    ('90 events of a second by a clock that turns each second', lambda: since_0001(90, EACH_OTHER_SECOND, 'DURATION:PT1S'), [*DAY, '--limit', '1'], 40, 256),
+    ('seconds with DTEND by a clock that turns on a Monday at a leap year\'s end',
+     lambda: in_zone(LEAP_MONDAY, '19500701T000000', 'DTEND;TZID=odd:19500701T000001', 'RRULE:FREQ=SECONDLY'), [*DAY, '--limit', '1000'], 1, 32),
+    ('days of 36,525 days by it', lambda: in_zone(LEAP_MONDAY, '00010701T000000', 'RRULE:FREQ=DAILY', LONG), [*DAY, '--limit', '1000'], 1, 32),
+    ('30 excluded instants by it, each day of a hundred years', lambda: in_zone(LEAP_MONDAY, '00010101T000000', 'RRULE:FREQ=DAILY', THIRTY),
+     ['2024-01-01', '36525d', '--every-day'], 2, 32),
+    ('6 events of 36,525 days by it, each day', lambda: calendar([*swung(*LEAP_MONDAY), *once_each(6, LONG)]),
+     ['1960-01-01', '30000d', '--every-day', '--notstarted', '--limit', '1'], 1, 32),
     ('12 rules behind a day that the clock skipped, each day',
      lambda: calendar(seconds(12, '', since='18441221')), ['1845-01-01', '9d', '--limit', '1', '--every-day', '--notstarted', '--zone-file', SKIPPED], 8, 64),
     ('127 rules since the day that the clock of Apia skipped, each day',
-     lambda: calendar(seconds(127, '', since='20111230')), ['2011-12-29', '9d', '--limit', '1', '--every-day', '--zone-file', APIA], 40, 256),
+     lambda: calendar(seconds(127, '', since='20111230')), ['2011-12-29', '9d', '--limit', '1', '--every-day', '--zone-file', APIA], 20, 256),
     ('127 rules since the day behind it, each day',
      lambda: calendar(seconds(127, '', since='20111231')), ['2011-12-29', '9d', '--limit', '1', '--every-day', '--zone-file', APIA], 1, 32),
+    ('77 rules of a day behind the day that a clock showed twice, each day',
+     lambda: calendar(seconds(77, '', 'DURATION:P1D', 'EXDATE;VALUE=DATE:18671018,18671019', since='18671018')),
+     ['1867-10-17', '9d', '--limit', '1', '--every-day', '--zone-file', REPEATED], 1, 32),
     ('64 rules behind what is listed, limit 1', lambda: excluded(64, '', *once('20240628')),
      ['2024-06-28', '10d', '--limit', '1', *NEW_YORK], 1, 32),
     ('125 rules before their first day, each day', lambda: calendar(seconds(125, 'Z')), ['2024-06-29', '9d', '--limit', '1', '--every-day'], 1, 32),

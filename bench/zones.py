@@ -105,6 +105,7 @@ ZONE_FILES = os.path.join(HERE, 'data', 'zone-files')
 BERLIN = os.path.join(HERE, '..', 'examples', 'zoneinfo', 'Europe', 'Berlin')
 SKIPPED = os.path.join(ZONE_FILES, 'Skipped')
 APIA = os.path.join(ZONE_FILES, 'Apia')
+REPEATED = os.path.join(ZONE_FILES, 'Repeated')
 
 
 def zone_file(name, rule, kinds, changes=()):
@@ -123,10 +124,12 @@ def zone_file(name, rule, kinds, changes=()):
 
 
 def skipped_files():
-    """Writes two zone files whose clocks once skipped a day: as that of Manila did, and as that of Apia did, among more offsets."""
+    """Writes two zone files whose clocks once skipped a day: as that of Manila did, and as that of Apia did, among more offsets. A third whose clock
+    once went back by a day, as that of Juneau did."""
     zone_file('Apia', b'WST-13', [(-41_400, 0, b'SST'), (-36_000, 1, b'SDT'), (50_400, 1, b'WDT'), (46_800, 0, b'WST')],
               [(1_316_872_800, 1), (1_325_239_200, 2), (1_333_202_400, 3)])
     zone_file('Skipped', b'PST-8', [(-57_360, 0, b'LMT'), (28_800, 0, b'PST')], [(-3_944_621_040, 1)])
+    zone_file('Repeated', b'AKST9', [(54_000, 0, b'LMT'), (-32_400, 0, b'AKST')], [(-3_225_225_600, 1)])
 
 
 def zone_files():
