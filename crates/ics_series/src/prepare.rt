@@ -285,7 +285,7 @@ fn prepare(zone: &mut Zone, asked: Asked)
     }
 }
 
-/// Holds the spans of a zone that a few may tell, if this is not empty.
+/// Holds the spans of a zone from one instant on and up to another that is later, if a few reach far.
 fn hold_through(zone: &mut Zone, through: (Moment, Moment))
     ensures { zone.new ≡ zone.old }
 {

@@ -178,13 +178,6 @@ module _ (s : Series) (duration : Duration) (lasting : AreLasting (clocks_in s.z
       (λ t. not (int_le from t && not (int_le to t)))
   over-test apart = amid-test s from to over-unwanted apart
 
--- The offsets between which the clock of a series's rule stays are those of the clock of DTSTART.
-pub own-bounds : (s : Series) (b : Bounds) (a : RuleStarts) → s.rule_starts ≡ Some a → IsBounded (clock_of (clocks_in a.zones) a.event.now.start) b
-    → IsBounded (clock_of (clocks_in s.zones) s.event.now.start) b
-own-bounds s b a is h =
-    let own = own-of s a is in
-    subst (λ (clock : Clock). IsBounded clock b) (λ i. clock_of (clocks_in (own.zones_are i)) (own.event_is i).start) h
-
 -- The stretch that is known to the rule of a series is one of the clock of DTSTART.
 pub own-stretch : (s : Series) (stretch : Stretch) → MatchOption s.rule_starts ((clock : Clock) → IsStretched clock stretch)
     (λ (a : RuleStarts). IsStretched (clock_of (clocks_in a.zones) a.event.now.start) stretch)
