@@ -115,8 +115,7 @@ turned_first {q = q} {start = start} was {p = p} positive e step (own, same) lim
 
 -- each further look
 pub turned_on : {q : EffectiveRule} {start c number before : ℕ} {o p : RecurrencePeriod} (was : Cursor) →
-    IsLeft q start c number before was.counted was.limit o
-    → is_stepped (period_in q start) q.interval number ≡ true → IsPeriodOf q p → p.number ≡ number
+    IsLeft q start c number before was.counted was.limit o → is_stepped (period_in q start) q.interval number ≡ true → IsPeriodOf q p → p.number ≡ number
     → IsTurned q start c number (after_look was p (was.counted + before)) p
 turned_on {q = q} {start = start} was left step product same = record {
   held = refl;

@@ -59,15 +59,13 @@ module _ (q : EffectiveRule) where
 
   pub size_hourly : count 3_600 (lets_within Hourly q) ≡ count 60 (lets q.minutes) * count 60 (lets q.seconds)
   size_hourly =
-      count-same 3_600 (lets_within Hourly q) (λ k. lets q.minutes (k / 60) && lets q.seconds (k % 60))
-      (λ k l. grind arith)
+      count-same 3_600 (lets_within Hourly q) (λ k. lets q.minutes (k / 60) && lets q.seconds (k % 60)) (λ k l. grind arith)
       ∙ count-product 60 60 (lets q.minutes) (lets q.seconds)
 
   pub size_daily : count 86_400 (lets_within Daily q) ≡ count 24 (lets q.hours) * count 60 (lets q.minutes) * count 60 (lets q.seconds)
   size_daily =
       count-same 86_400 (lets_within Daily q) (λ k. (lets q.hours (k / 60 / 60) && lets q.minutes (k / 60 % 60)) && lets q.seconds (k % 60))
-      (λ k l. grind arith)
-      ∙ count-product 1_440 60 (λ m. lets q.hours (m / 60) && lets q.minutes (m % 60)) (lets q.seconds)
+      (λ k l. grind arith) ∙ count-product 1_440 60 (λ m. lets q.hours (m / 60) && lets q.minutes (m % 60)) (lets q.seconds)
       ∙ ap (λ x. x * count 60 (lets q.seconds)) (count-product 24 60 (lets q.hours) (lets q.minutes))
 
 module _ (q : EffectiveRule) (start : ℕ) (fine : 0 < seconds_of q.frequency) (unit : seconds_of q.frequency ≤ 86_400) where

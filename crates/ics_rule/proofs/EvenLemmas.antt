@@ -200,8 +200,7 @@ even_years q start some flat yearly = even_by 1 (λ x. first) some (omega arith)
     let long = days_before_year_low x in
     let one = year_is q flat x (omega (arith, rw (own x) at early, long)) in
     let zero = year_is q flat 0 (omega arith) in
-    rw (own (suc x), own x) (omega (arith, one, zero)))
-    (λ x low. refl)
+    rw (own (suc x), own x) (omega (arith, one, zero))) (λ x low. refl)
   where
     first : ℕ
     first = allowed_before q (days_before_year 1 * 86_400) - allowed_before q (days_before_year 0 * 86_400)

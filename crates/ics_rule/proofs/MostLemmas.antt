@@ -363,8 +363,7 @@ days_size q start n long =
     in_blocks q start n b 86_400 (is_open q a) (lets_clock q)
     (λ m same. let early = before_next f w (suc x) m (omega (arith, same)) in omega (arith, early, next))
     (λ m same on. both_true (nat_le a (day_of m)) (lets_date q (day_of m)) (not_earlier a (day_of m)
-    (let late = begun f w x m (omega (arith, same)) in omega (arith, late, day))) on)
-    (λ m is. same_time q m ∙ is)
+    (let late = begun f w x m (omega (arith, same)) in omega (arith, late, day))) on) (λ m is. same_time q m ∙ is)
 
 pub long_size : (q : EffectiveRule) (start n : ℕ) → (seconds_of q.frequency ≡ 0) ⊎ (86_400 < seconds_of q.frequency)
     → size q start n ≤ most_days q.frequency q * count 86_400 (lets_clock q)
@@ -381,8 +380,7 @@ long_size q start n long =
     let in_b = before_next f w (suc x) n (omega arith) in
     let whole : a + (b - a) ≡ b = omega (arith, day, next, in_a, in_b) in
     let most = days_size q start n long in
-    let few = mul-le-mul_right (count 86_400 (lets_clock q))
-    (open_days q x (b - a) f refl long whole (omega (arith, day, next, end))) in
+    let few = mul-le-mul_right (count 86_400 (lets_clock q)) (open_days q x (b - a) f refl long whole (omega (arith, day, next, end))) in
     let same = ap (λ z. count z (is_open q a) * count 86_400 (lets_clock q)) whole in
     omega (arith, most, few, same)
 

@@ -8,7 +8,7 @@ use Rattle.std.proofs.Math.Nat.{add-mul, mod-lt, mul_comm, mul_assoc, mul-le-mul
 use Rattle.ics_fields.specs.declared.frequency.Frequency.{Frequency}
 use Rattle.ics_fields.specs.Sets.{IsLeastFrom}
 use Rattle.ics_period.specs.declared.effective_rule.EffectiveRule.{EffectiveRule}
-use Rattle.ics_period.specs.Candidates.{lets_date, is_stepped}
+use Rattle.ics_period.specs.Candidates.{lets_clock, lets_date, is_stepped}
 use Rattle.ics_period.specs.Ranks.{count}
 use Rattle.ics_rule.specs.Inner.Rounds.{seconds_of}
 use Rattle.ics_rule.specs.Inner.OpenPeriods.{per_day, lets_own, is_open_period}
@@ -61,6 +61,10 @@ module _ {a i : ℕ} {g : ℕ → Bool} {from before number total : ℕ} (walk :
 
   pub walk_done : before ≤ number → total + count from stepped ≡ count before stepped
   walk_done h = walk.passed ∙ ap (λ x. count x stepped) (let all : min number before ≡ before = omega (arith, h) in all)
+
+-- a second that no part allows
+pub own_second : (f : Frequency) (q : EffectiveRule) (m : ℕ) → seconds_of f ≡ 1 → lets_clock q m ≡ false → lets_own f q (m * seconds_of f) ≡ false
+own_second f q m e h = let one : m * 1 ≡ m = omega arith in grind (arith, one, h)
 
 -- before the first nothing is a step
 pub none_stepped : (a i : ℕ) (g : ℕ → Bool) → count a (λ p. is_stepped a i p && g p) ≡ 0
@@ -195,8 +199,7 @@ module _ (q : EffectiveRule) (first : ℕ) {from before : ℕ} (order : from ≤
       → total + count from (λ p. is_stepped first q.interval p && lets_own q.frequency q (p * seconds_of q.frequency))
       ≡ count before (λ p. is_stepped first q.interval p && lets_own q.frequency q (p * seconds_of q.frequency))
       → total + count from (is_open_period q first) ≡ count before (is_open_period q first)
-  day_in total is = count_between total _ (is_open_period q first) order
-      (λ m l h. let same = same_day m l h in grind arith)
+  day_in total is = count_between total _ (is_open_period q first) order (λ m l h. let same = same_day m l h in grind arith)
 
   pub day_out : lets_date q (from / per_day q.frequency) ≡ false → 0 + count from (is_open_period q first) ≡ count before (is_open_period q first)
   day_out out =

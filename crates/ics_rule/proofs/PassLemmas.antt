@@ -12,8 +12,7 @@ use Rattle.ics_period.proofs.PeriodLemmas.{begun, begins, period_mono}
 
 -- the step of a local before which the rule lets nothing in
 pub step_open : {q : EffectiveRule} {first number begin place next : ℕ} → begin ≡ first_local q.frequency (monday_zero q.week_start) number → begin ≤ place →
-    NoneLetIn q begin place
-    → IsLeastFrom (is_stepped first q.interval) (period_in q place) next → IsNextOpen q first number next
+    NoneLetIn q begin place → IsLeastFrom (is_stepped first q.interval) (period_in q place) next → IsNextOpen q first number next
 step_open {q = q} {number = number} {place = place} e up none least = record {
   step = least.passes;
   low = let l = begins q.frequency (monday_zero q.week_start) number place (omega (arith, e, up)) in omega (arith, l, least.low);
@@ -39,8 +38,7 @@ module _ (q : EffectiveRule) (hours minutes seconds : ℕ)
     (i : (m : ℕ) → m < 60 → contains minutes m ≡ ((true || (m == 0)) && lets q.minutes m))
     (s : (m : ℕ) → m < 60 → contains seconds m ≡ ((true || (m == 0)) && lets q.seconds m)) where
   clock_is : (n : ℕ) → has_time hours minutes seconds (n % 86_400) ≡ lets_clock q n
-  clock_is n = time_at hours minutes seconds n
-      ∙ rw (h (n / 3_600 % 24) (omega arith), i (n / 60 % 60) (omega arith), s (n % 60) (omega arith)) refl
+  clock_is n = time_at hours minutes seconds n ∙ rw (h (n / 3_600 % 24) (omega arith), i (n / 60 % 60) (omega arith), s (n % 60) (omega arith)) refl
 
   pub second_next : (n : ℕ) {t : ℕ} → t < 86_400 → IsLeastFrom (has_time hours minutes seconds) (n % 86_400) t → (m : ℕ) → n ≤ m → m < n / 86_400 * 86_400 + t →
       lets_clock q m ≡ false

@@ -95,8 +95,7 @@ third_in_october : listed third_instance.parts 1997 9 4 (date 1997 10 1) 31 ≡ 
 unfolding count days_on_literals
 third_in_october =
     members_by_days third_instance (1997 * 12 + 10) (date 1997 10 1) (date 1997 11 1)
-    (record { period = λ m. refl; shown = λ m. at_nine (1997 * 12 + 10) m _ }) refl refl refl refl
-    ∙ refl
+    (record { period = λ m. refl; shown = λ m. at_nine (1997 * 12 + 10) m _ }) refl refl refl refl ∙ refl
 
 -- the second-to-last weekday of the month
 abbrev second_last_weekday : Recurrence
@@ -107,12 +106,10 @@ second_last_in_october : listed second_last_weekday.parts 1997 9 29 (date 1997 1
 unfolding count days_on_literals
 second_last_in_october =
     members_by_days second_last_weekday (1997 * 12 + 10) (date 1997 10 1) (date 1997 11 1)
-    (record { period = λ m. refl; shown = λ m. at_nine (1997 * 12 + 10) m _ }) refl refl refl refl
-    ∙ refl
+    (record { period = λ m. refl; shown = λ m. at_nine (1997 * 12 + 10) m _ }) refl refl refl refl ∙ refl
 
 second_last_in_february : listed second_last_weekday.parts 1997 9 29 (date 1998 2 1) 28 ≡ map (date 1998 2) (26 ∷ [])
 unfolding count days_on_literals
 second_last_in_february =
     members_by_days second_last_weekday (1998 * 12 + 2) (date 1998 2 1) (date 1998 3 1)
-    (record { period = λ m. refl; shown = λ m. at_nine (1998 * 12 + 2) m _ }) refl refl refl refl
-    ∙ refl
+    (record { period = λ m. refl; shown = λ m. at_nine (1998 * 12 + 2) m _ }) refl refl refl refl ∙ refl

@@ -68,8 +68,7 @@ clock Date {from = from} set own n same date =
     let midnight = date refl in
     ap (λ z. lets (only z) n) (sym midnight.1) ∙ only_number true 0 own n ∙ ap (λ b. if b then (n == own) else true) (sym midnight.0 ∙ same)
 clock DateTime {takes = takes} {from = from} set own n same date =
-    only_number (takes && is_empty set) set own n
-    ∙ by_absence (is_empty set) from (contains set n) (n == own) (ap (λ x. x && is_empty set) same) (λ e. refl)
+    only_number (takes && is_empty set) set own n ∙ by_absence (is_empty set) from (contains set n) (n == own) (ap (λ x. x && is_empty set) same) (λ e. refl)
 
 -- whether DTSTART gives the hour, the minute and the second: with the hour it gives all
 clock_taken : (f : Frequency) (r : Recurrence) → (skips_hours f ≡ is_extracted r f ByHour) × (skips_minutes f ≡ is_extracted r f ByMinute)

@@ -6,11 +6,12 @@ ghost use Rattle.ics_rule.specs.Inner.Searches.{IsUnderCount};
 ghost use Rattle.ics_rule.specs.Inner.Rounds.{seconds_of, IsPassedTo};
 ghost use Rattle.ics_rule.specs.Inner.OpenPeriods.{per_day, lets_own, is_timely, is_open_period, chosen_in_open};
 ghost use Rattle.ics_fields.specs.Days.{days_before_year};
+ghost use Rattle.ics_period.specs.PeriodNumbers.{rules_end};
 
-use crate::cursor::Cursor;
+use crate::cursor::{Cursor, RULES_END};
 use crate::each_day::{lets_few, open_of_each};
 use crate::never::size_of_open;
-use crate::pass::{days_of_closed_month, next_open_day};
+use crate::pass::{days_of_closed_month, next_open_day, next_open_second};
 use crate::rounds::{calendar_round, seconds_of};
 use crate::search::Search;
 use crate::walk::next_step;
@@ -39,6 +40,14 @@ pub(crate) fn lets_all_times(parts: &EffectiveRule) -> bool
         && (skips_seconds(frequency) | parts.seconds.is_empty())
 }
 
+/// Whether the parts do not allow the hour or the minute of a second of the years of rules.
+fn is_closed_minute(parts: &EffectiveRule, n: u64) -> bool
+    ensures { result ≡ true → n < rules_end }
+{
+    n < RULES_END
+        && !(lets(parts.hours, (n / 3_600 % 24) as u8) && lets(parts.minutes, (n / 60 % 60) as u8))
+}
+
 /// How many steps of an interval, from the first on, are before a number.
 fn steps_before(first: u64, interval: u32, number: u64) -> u64
     requires interval { 1 ≤ interval }
@@ -49,7 +58,8 @@ fn steps_before(first: u64, interval: u32, number: u64) -> u64
     (number.saturating_sub(first) + (interval - 1)) / interval
 }
 
-/// How many steps from one period on and before another have an hour, minute and second that are allowed, whatever their days are.
+/// How many steps from one period on and before another have an hour, minute and second that are allowed, whatever their days are. A minute that is
+/// not allowed is left at its end.
 pub(crate) fn steps_let_in(search: &Search<'_>, from: u64, before: u64) -> u64
     requires order { from ≤ before }
     requires before { before < 2 ^ 40 }
@@ -67,8 +77,13 @@ pub(crate) fn steps_let_in(search: &Search<'_>, from: u64, before: u64) -> u64
     while number < before {
         if lets_own(parts, number * unit) {
             total += 1;
+            number += parts.interval as u64;
+        } else if unit == 1 && is_closed_minute(parts, number) {
+            let closed = (next_open_second(parts, number) - number).max(1);
+            number = next_step(search.first, parts.interval, number + closed);
+        } else {
+            number += parts.interval as u64;
         }
-        number += parts.interval as u64;
     }
     total
 }

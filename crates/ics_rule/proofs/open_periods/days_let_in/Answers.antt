@@ -33,10 +33,8 @@ loop-day-preserved-then-lets_date c =
 pub loop-day-preserved-then-leaves_months : goal.loop-day-preserved-then-leaves_months
 loop-day-preserved-then-leaves_months c =
     let here = sym c.lets_date.ensures ∙ c.if-lets_date.false in (
-      walk_past c.loop-day.invariant.0 here
-          (λ j h. one_out (lets_date c.args.search.now.parts.now) c.loop-day.day here c.days_of_closed_month.ensures.none j
-          (subst (λ x. j < x) c.max-closed.ensures h))
-          (omega (arith, c.max-closed.ensures)) c.next_step-day-then-leaves_months.ensures c.loop-day-test.true,
+      walk_past c.loop-day.invariant.0 here (λ j h. one_out (lets_date c.args.search.now.parts.now) c.loop-day.day here c.days_of_closed_month.ensures.none j
+          (subst (λ x. j < x) c.max-closed.ensures h)) (omega (arith, c.max-closed.ensures)) c.next_step-day-then-leaves_months.ensures c.loop-day-test.true,
       c.turn_to.ensures.near,
     )
 

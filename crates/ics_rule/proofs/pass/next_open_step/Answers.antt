@@ -11,5 +11,4 @@ next_open-place-requires-clause-local c = grind (arith, begun)
 
 pub returns : goal.returns
 returns c = rw c.number.ensures at (step_open {q = c.args.search.now.parts.now} {number = c.number.result + c.args.search.now.parts.now.interval}
-    c.first_local-begin.ensures c.next_open-place.ensures.low c.next_open-place.ensures.none
-    (rw c.period_of.ensures.value at c.next_step.ensures))
+    c.first_local-begin.ensures c.next_open-place.ensures.low c.next_open-place.ensures.none (rw c.period_of.ensures.value at c.next_step.ensures))

@@ -49,8 +49,7 @@ pub loop-number-preserved : goal.loop-number-preserved
 loop-number-preserved c =
     let turned = c.in_ok-period.ensures.turned in
     let walk = c.loop-number.invariant.walk in
-    counting_goes_on c.loop-number.invariant turned c.turn_to.ensures.looks
-    (omega (arith, c.loop-number-test.true, c.period_of-last.ensures.value))
+    counting_goes_on c.loop-number.invariant turned c.turn_to.ensures.looks (omega (arith, c.loop-number-test.true, c.period_of-last.ensures.value))
     (λ n l. sym (taken_within c.args.search.now.start turned.product turned.number walk.step n)
     ∙ c.in_default.ensures.next n (omega (arith, l, c.turn_to.ensures.looks.place, walk.moved.place)))
     (rw (c.args.search.now.of_start, turned.number) at c.next_open_step-number.ensures)
