@@ -20,6 +20,9 @@ const LONG: i64 = 120 * 86_400;
 /// How many seconds before the first instant that is.
 const BEFORE: i64 = 20 * 366 * 86_400;
 
+/// How many seconds before the first instant, or after the second, a zone may be asked, since an event lasts so long.
+const LASTING: i64 = 37_000 * DAY;
+
 /// The first time zones that files have, each with other observances, and those of them that stand more than once. These are made once, and
 /// files share them. No answer depends on what is here: it makes reading faster.
 #[derive(Drop)]
@@ -88,6 +91,11 @@ impl SharedZones {
             zone.reach_between(self.from.saturating_sub(BEFORE), self.from);
         }
         zone.reach_between(self.from, self.to);
+        zone.note_through(
+            self.from.saturating_sub(LASTING),
+            self.to.saturating_add(LASTING),
+        );
+        zone.learn();
     }
 
     /// The time zone with these observances, which is shared from now on.

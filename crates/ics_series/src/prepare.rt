@@ -17,15 +17,17 @@ const SHORT: i64 = 120 * DAY;
 /// How long before a window an occurrence can end that is asked for.
 const LATE: i64 = 4 * DAY;
 
+/// Between no instants.
+const NOWHERE: (Moment, Moment) = (Moment::MAX, Moment::MIN);
+
 /// Where an event asks for the offsets of its zone: near an instant, if that is before `from`, and from there on up to another. Before all these some
-/// days about an earlier instant, if there is one, and last all days of a span, if it is not empty.
+/// days about an earlier instant, if there is one.
 #[derive(Clone, Copy, PartialEq)]
 struct Asked {
     begun: Moment,
     near: Moment,
     from: Moment,
     to: Moment,
-    through: (Moment, Moment),
 }
 
 /// Prepares the zones that the events of these files name for a window, which may be listed under each day. It makes a listing faster and changes no
@@ -45,9 +47,57 @@ fn prepare_file(file: &mut FileEvents, window: &Window, every_day: bool)
     if file.zones.is_empty() {
         return;
     }
+    let any_lasts = note_through_each(file, window, every_day);
+    if any_lasts {
+        learn_each(file);
+    }
     prepare_named(file, window, every_day);
+    if any_lasts {
+        hold_through_each(file, window, every_day);
+    }
     note_named(file, every_day);
     learn_each(file);
+}
+
+/// The zones of a file take note of the instants between which its events ask them again and again. Whether there are any.
+fn note_through_each(file: &mut FileEvents, window: &Window, every_day: bool) -> bool
+    ensures { file.new ≡ file.old }
+{
+    let mut any = false;
+    for k in 0..file.events.len() {
+        let Some(index) = file.events[k].start.zone else {
+            continue;
+        };
+        let (from, to) = asked_through(&file.events[k], window, every_day);
+        if from >= to {
+            continue;
+        }
+        if let Some(zone) = file.zones.get_mut(index as usize) {
+            zone.note_through(from, to);
+            any = true;
+        }
+    }
+    any
+}
+
+/// The zones of a file hold the spans between the same instants, if a few reach far. Most events ask what the one before them asks.
+fn hold_through_each(file: &mut FileEvents, window: &Window, every_day: bool)
+    ensures { file.new ≡ file.old }
+{
+    let mut last = None;
+    for k in 0..file.events.len() {
+        let Some(index) = file.events[k].start.zone else {
+            continue;
+        };
+        let (from, to) = asked_through(&file.events[k], window, every_day);
+        if from >= to || last == Some((index, from, to)) {
+            continue;
+        }
+        last = Some((index, from, to));
+        if let Some(zone) = file.zones.get_mut(index as usize) {
+            zone.reach_through(from, to);
+        }
+    }
 }
 
 /// Prepares the zones that the events of a file name. Most events ask what the one before them asks.
@@ -66,7 +116,6 @@ fn prepare_named(file: &mut FileEvents, window: &Window, every_day: bool)
         last = Some(asked);
         if let Some(zone) = file.zones.get_mut(index as usize) {
             prepare(zone, asked.1);
-            hold_through(zone, asked.1.through);
         }
     }
 }
@@ -190,7 +239,6 @@ fn asked_by(event: &Event, window: &Window, every_day: bool) -> Asked {
         near,
         from,
         to,
-        through: asked_through(event, window),
     }
 }
 
@@ -239,19 +287,36 @@ fn begun_before(event: &Event, window: &Window) -> Moment {
     }
 }
 
-/// From when to when an event that recurs asks in a window, if it lasts long or the window does: from the first start that can reach it to the last end
-/// of one in it. Else an empty span.
-fn asked_through(event: &Event, window: &Window) -> (Moment, Moment) {
-    let lasting = match event.length {
-        Length::Open | Length::Until(_) => 0,
+/// How many seconds an event lasts about.
+fn lasting_of(event: &Event) -> i64 {
+    match event.length {
+        Length::Open => 0,
+        Length::Until(end) => {
+            let first = local_of(event.start.stamp).seconds();
+            local_of(end.stamp).seconds().saturating_sub(first).max(0)
+        }
         Length::Lasting(length) => seconds_of(length),
-    };
+    }
+}
+
+/// From when to when an event asks again and again in a window, if it lasts long or the window does: one that recurs from the first start that can reach
+/// it to the last end of one in it, and one that starts once from its start to its end, if it may be listed under each day. Else an empty span.
+fn asked_through(event: &Event, window: &Window, every_day: bool) -> (Moment, Moment) {
+    let lasting = lasting_of(event);
     let long = lasting.max(window.to.saturating_sub(window.from));
-    if long < SHORT || is_single(event) {
-        return (Moment::MAX, Moment::MIN);
+    if long < SHORT {
+        return NOWHERE;
     }
     let first = local_of(event.start.stamp).seconds();
     let from = window.from.saturating_sub(lasting).saturating_sub(LATE);
+    if is_single(event) {
+        let is_near = from <= first && first <= window.to.saturating_add(LATE);
+        if !every_day || lasting < SHORT || !is_near {
+            return NOWHERE;
+        }
+        let end = first.saturating_add(lasting);
+        return (first.saturating_sub(LATE), end.saturating_add(LATE));
+    }
     let to = window.to.saturating_add(lasting).saturating_add(LATE);
     (from.max(first), to)
 }
@@ -282,14 +347,5 @@ fn prepare(zone: &mut Zone, asked: Asked)
     }
     if asked.from < asked.to {
         zone.reach_between(asked.from, asked.to);
-    }
-}
-
-/// Holds the spans of a zone from one instant on and up to another that is later, if a few reach far.
-fn hold_through(zone: &mut Zone, through: (Moment, Moment))
-    ensures { zone.new ≡ zone.old }
-{
-    if through.0 < through.1 {
-        zone.reach_through(through.0, through.1);
     }
 }

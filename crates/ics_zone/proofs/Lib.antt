@@ -3,7 +3,7 @@ pub mod UntilLemmas
 pub mod FileLemmas
 pub mod JiffLemmas
 pub mod OnsetLemmas
-pub mod QuietLemmas
+pub mod FoundLemmas
 pub mod EndLemmas
 pub mod MomentLemmas
 pub mod LatestLemmas

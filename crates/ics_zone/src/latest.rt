@@ -23,6 +23,14 @@ const BEYOND: i64 = 5_000_000_000;
 /// How many hours of onsets are looked at for the end of a span, in a zone of one observance, and fewer if there are more.
 const HOURS: usize = 2_048;
 
+/// How many onsets are found of each observance at most, and of all together.
+const FOUND_OF_EACH: usize = 8_192;
+
+const FOUND: usize = 262_144;
+
+/// A zone of more observances has those found whose rules are plain too.
+const SOME: usize = 8;
+
 /// An onset of an observance, the place of the observance in its component, and the offset after the onset.
 #[derive(Clone, Copy)]
 pub(crate) struct Latest {
@@ -80,8 +88,23 @@ pub(crate) fn look_on(onsets: &mut [Onsets], at: Moment, limit: Moment)
     ensures { (zone : List ObservanceSaid) → AreOnsetsOfAll zone onsets.old → AreOnsetsOfAll zone onsets.new }
 {
     for k in 0..onsets.len() {
-        if !onsets[k].is_quiet(at, at) {
+        if !onsets[k].is_known(at) {
             onsets[k].look(at, limit);
+        }
+    }
+}
+
+/// Finds the onsets of the observances of which a search may take long, so many of each at most: of all that have rules, if they are many, and else of
+/// those that have no plain rule.
+pub(crate) fn find_each(onsets: &mut [Onsets], from: Moment, to: Moment)
+    requires { All IsSound onsets.old }
+    ensures { (zone : List ObservanceSaid) → AreOnsetsOfAll zone onsets.old → AreOnsetsOfAll zone onsets.new }
+{
+    let most = FOUND_OF_EACH.min(FOUND / onsets.len().max(1));
+    let with_plain = onsets.len() > SOME;
+    for k in 0..onsets.len() {
+        if onsets[k].must_find(with_plain, from, to) {
+            onsets[k].find(from, to, most);
         }
     }
 }

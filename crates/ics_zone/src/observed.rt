@@ -17,8 +17,8 @@ use crate::answers::{Answer, add_answers, group_end};
 use crate::clock::{FIRST_HELD, LAST_HELD, is_moment};
 use crate::gap_stretch::{Jump, greatest};
 use crate::latest::{
-    Latest, Steady, clear_after, first_listed, first_offset, latest_of, latest_within, look_on,
-    next_change, next_other, next_past, overrides,
+    Latest, Steady, clear_after, find_each, first_listed, first_offset, latest_of, latest_within,
+    look_on, next_change, next_other, next_past, overrides,
 };
 use crate::onsets::Onsets;
 use crate::seconds::OffsetEachSecond;
@@ -37,6 +37,9 @@ use std::marker::Model;
 const DAY: i64 = 86_400;
 
 const HOUR: i64 = 3_600;
+
+/// Onsets are found for so many seconds at most: a thousand years.
+const LONGEST: i64 = 1_000 * 366 * DAY;
 
 /// No offset of an observance is greater.
 const SHORT: i64 = 86_399;
@@ -315,10 +318,29 @@ impl Observed {
         Ok(())
     }
 
-    /// Makes answers faster from an instant on and up to another and changes none: it holds spans from the first on, if a few reach far.
+    /// Makes answers faster from an instant on and up to another and changes none: each observance of which a search may take long finds its onsets.
+    pub fn find_through(&mut self, from: Moment, to: Moment)
+        ensures { self.new ≡ self.old }
+    {
+        let last = to
+            .min(from.saturating_add(LONGEST))
+            .clamp(FIRST_HELD, LAST_HELD);
+        let first = from.clamp(FIRST_HELD, last);
+        self.find_between(first - 2 * DAY, last + 2 * DAY);
+    }
+
+    /// The same between instants that are near enough.
+    fn find_between(&mut self, from: Moment, to: Moment)
+        ensures { self.new ≡ self.old }
+    {
+        find_each(&mut self.onsets, from, to);
+    }
+
+    /// The same, and it holds spans from the first instant on, if a few reach far.
     pub fn reach_through(&mut self, from: Moment, to: Moment)
         ensures { self.new ≡ self.old }
     {
+        self.find_through(from, to);
         let last = to.clamp(FIRST_HELD, LAST_HELD);
         let first = from.clamp(FIRST_HELD, last);
         if self.room == 0 {
@@ -954,12 +976,24 @@ impl Observed {
         moment_in(&self.held, seconds)
     }
 
+    /// Whether the onsets by rules are known about a local, given by its seconds.
+    fn is_found_about(&self, seconds: i64) -> bool
+        requires { IsMoment seconds }
+    {
+        for one in &self.onsets {
+            if one.rule.is_some() && !(one.is_known(seconds - DAY) && one.is_known(seconds + DAY)) {
+                return false;
+            }
+        }
+        true
+    }
+
     /// The same by spans that are made for it and not held, in a zone of many observances. None if their onsets are too many or an allocation fails.
     fn near_moment(&self, seconds: i64) -> Option<Moment>
         requires bound { IsMoment seconds }
         ensures { IfSome result (IsMomentOf self.now.said.items seconds) }
     {
-        if self.listed_near == 0 {
+        if self.listed_near == 0 || self.is_found_about(seconds) {
             return None;
         }
         let spans = self.spans_about(seconds, seconds, self.listed_near)?;

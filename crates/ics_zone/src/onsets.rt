@@ -1,5 +1,5 @@
 //! The onsets of one observance near an instant.
-ghost use Rattle.std.specs.Prelude.{◌≡◌, ℤ, pos, true, int_le, ◌<◌, ◌<ℤ◌, ◌≤ℤ◌, IfOk, IfSome, MatchOption};
+ghost use Rattle.std.specs.Prelude.{◌≡◌, ℤ, pos, true, false, int_le, ◌<◌, ◌<ℤ◌, ◌≤ℤ◌, [], ◌∷◌, ◌++◌, IfOk, IfSome, MatchOption};
 ghost use Rattle.std.specs.List.{Contains};
 ghost use Rattle.std.specs.Option.{option_map};
 ghost use Rattle.jiff_core.specs.Calendar.{IsWithin};
@@ -7,7 +7,7 @@ ghost use Rattle.ics_fields.specs.Days.{IsStampDay};
 ghost use Rattle.ics_rule.specs.Kept.{until_moment};
 ghost use Rattle.ics_zone.specs.Observances.{ObservanceSaid, IsObservance, is_until, rule_from};
 ghost use Rattle.ics_zone.specs.Inner.Latest.{IsInOrder, IsPassed, IsLast, IsLastOf, IsLastAfter};
-ghost use Rattle.ics_zone.specs.Inner.OnsetSets.{IsShownTo, IsKeptAt, Has, IsSound, AreOnsetsOf, IsListing, IsEnd, held_rule};
+ghost use Rattle.ics_zone.specs.Inner.OnsetSets.{IsShownTo, IsKeptAt, Has, AreFound, IsSound, AreOnsetsOf, IsListing, IsEnd, held_rule};
 
 use crate::clock::{RULES_END, instant, shown_by};
 use crate::kept::{last_between, last_kept, last_of_all, next_kept};
@@ -31,9 +31,15 @@ pub(crate) struct Onsets {
     pub until: Moment,
     /// How many seconds back the search for an onset of the rule goes at first.
     pub ago: u64,
-    /// After this instant and before the next there is no onset.
-    pub quiet_from: Moment,
-    pub quiet_to: Moment,
+    /// Whether a search of the rule may take long.
+    pub is_slow: bool,
+    /// The onsets after one instant and before another, in order.
+    pub found: Vec<Moment>,
+    pub known_from: Moment,
+    pub known_to: Moment,
+    /// From which instant on and up to which other they were sought. They are fewer if they are many.
+    pub sought_from: Moment,
+    pub sought_to: Moment,
 }
 
 /// How many instants of a list are not after a given one.
@@ -88,6 +94,32 @@ fn is_plain(parts: &Parts) -> bool {
         & parts.month_days.is_empty()
         & parts.year_days.is_empty()
         & parts.positions.is_empty()
+}
+
+/// Whether a rule goes by days and lists no days but weekdays. One of its next days matches.
+fn is_each_day(parts: &Parts) -> bool {
+    matches!(parts.frequency, Frequency::Daily)
+        & parts.months.is_empty()
+        & parts.weeks.is_empty()
+        & parts.month_days.is_empty()
+        & parts.year_days.is_empty()
+        & parts.positions.is_empty()
+}
+
+/// Whether an observance has a rule of which a search may take long.
+fn has_slow_rule(observance: &Observance) -> bool {
+    match &observance.rule {
+        Some(rule) => !is_plain(rule.parts()) && !is_each_day(rule.parts()),
+        None => false,
+    }
+}
+
+/// Adds an onset to a list of so many at most. Whether it has room for it.
+fn add_found(at: Moment, most: usize, found: &mut Vec<Moment>) -> bool
+    ensures yes { result ≡ true → found.new.items ≡ found.old.items ++ at ∷ [] }
+    ensures no { result ≡ false → found.new.items ≡ found.old.items }
+{
+    found.len() < most && found.push(at).is_ok()
 }
 
 /// UNTIL of a rule, if it is there and in UTC, and else a late instant.
@@ -166,9 +198,45 @@ impl Onsets {
             rule,
             until,
             ago,
-            quiet_from: 0,
-            quiet_to: 0,
+            is_slow: has_slow_rule(observance),
+            found: Vec::new(alloc),
+            known_from: 0,
+            known_to: 0,
+            sought_from: Moment::MAX,
+            sought_to: Moment::MIN,
         })
+    }
+
+    /// Whether its onsets are known just after an instant.
+    pub fn is_known(&self, at: Moment) -> bool
+        ensures { result ≡ true → (self.now.known_from ≤ℤ at) × (at <ℤ self.now.known_to) }
+    {
+        self.known_from <= at && at < self.known_to
+    }
+
+    /// The last onset that was found and is not after an instant.
+    fn last_found(&self, moment: Moment) -> Option<Moment>
+        requires { IsSound self.now }
+        ensures { IsLastOf (Contains self.now.found.items) moment result }
+    {
+        let passed = passed(&self.found, moment);
+        if passed == 0 {
+            None
+        } else {
+            Some(self.found[passed - 1])
+        }
+    }
+
+    /// The last onset that is not after an instant, if that was found.
+    pub fn known_last(&self, moment: Moment) -> Option<Moment>
+        requires { IsSound self.now }
+        ensures { IfSome result (IsLast (Has self.now) moment) }
+    {
+        if self.is_known(moment) {
+            self.last_found(moment)
+        } else {
+            None
+        }
     }
 
     /// Whether it is known that no onset is after an instant and not after another.
@@ -176,18 +244,82 @@ impl Onsets {
         requires { IsSound self.now }
         ensures { result ≡ true → (t : ℤ) → Has self.now t → after <ℤ t → moment <ℤ t }
     {
-        self.quiet_from <= after && moment < self.quiet_to
+        if after < self.known_from || moment >= self.known_to {
+            return false;
+        }
+        match self.last_found(moment) {
+            Some(last) => last <= after,
+            None => true,
+        }
     }
 
-    /// Looks for the first onset after an instant and before a limit, so that it is known.
+    /// Looks for the first onset after an instant and before a limit, so that it is known, unless onsets were sought already.
     pub fn look(&mut self, after: Moment, limit: Moment)
         requires sound { IsSound self.old }
         requires limit { after <ℤ limit }
         ensures sound { IsSound self.new }
         ensures same { (p : ObservanceSaid) → AreOnsetsOf p self.old → AreOnsetsOf p self.new }
     {
-        self.quiet_to = self.next(after, limit);
-        self.quiet_from = after;
+        if self.sought_from < self.sought_to {
+            return;
+        }
+        let next = self.next(after, limit);
+        self.found.clear();
+        self.known_from = after;
+        self.known_to = next;
+    }
+
+    /// Whether its onsets are to be found from an instant on and up to another: a search of its rule may take long, or plain rules count too, and they
+    /// were not sought yet.
+    pub fn must_find(&self, with_plain: bool, from: Moment, to: Moment) -> bool {
+        let is_sought = self.sought_from <= from && to <= self.sought_to;
+        (self.is_slow || (with_plain && self.rule.is_some())) && !is_sought
+    }
+
+    /// Finds the onsets from the last one by an instant on and before another, and those that were sought before: so many at most, and fewer where
+    /// an allocation fails.
+    pub fn find(&mut self, from: Moment, to: Moment, most: usize)
+        requires sound { IsSound self.old }
+        ensures sound { IsSound self.new }
+        ensures same { (p : ObservanceSaid) → AreOnsetsOf p self.old → AreOnsetsOf p self.new }
+    {
+        let first = self.sought_from.min(from);
+        let last = self.sought_to.max(to);
+        let begin = self.begin_by(first);
+        let mut found = Vec::new(*self.listed.allocator());
+        let end = self.list_between(begin, last, most, &mut found);
+        self.sought_from = first;
+        self.sought_to = last;
+        self.found = found;
+        self.known_from = begin;
+        self.known_to = end;
+    }
+
+    /// An instant before the last onset that is not after another, or before all if there is no such onset.
+    fn begin_by(&self, from: Moment) -> Moment
+        requires { IsSound self.now }
+    {
+        match self.last(from) {
+            Some(last) => last.saturating_sub(1),
+            None => Moment::MIN,
+        }
+    }
+
+    /// Lists the onsets after an instant and before another, so many at most, and fewer where an allocation fails. The instant before which all are
+    /// listed.
+    fn list_between(&self, from: Moment, to: Moment, most: usize, found: &mut Vec<Moment>) -> Moment
+        requires sound { IsSound self.now }
+        requires empty { found.old.items ≡ [] }
+        ensures { AreFound (Has self.now) from result found.new.items }
+    {
+        let mut at = from;
+        while at < to {
+            at = self.next_asked(true, at, to);
+            if at < to && !add_found(at, most, found) {
+                return at;
+            }
+        }
+        to
     }
 
     /// The first onset.
@@ -243,6 +375,9 @@ impl Onsets {
         if moment < self.first() {
             return None;
         }
+        if let Some(last) = self.known_last(moment) {
+            return Some(last);
+        }
         match (self.last_listed(moment), self.last_by_rule(moment)) {
             (Some(listed), Some(kept)) => Some(listed.max(kept)),
             (Some(listed), None) => Some(listed),
@@ -284,6 +419,9 @@ impl Onsets {
     {
         if self.is_quiet(after, moment) {
             return None;
+        }
+        if let Some(last) = self.known_last(moment) {
+            return if last > after { Some(last) } else { None };
         }
         match (
             self.last_listed_after(after, moment),
@@ -331,6 +469,22 @@ impl Onsets {
         self.listed[passed].min(limit)
     }
 
+    /// The first found onset after an instant, or the end of what is known if there is none.
+    fn known_next(&self, after: Moment) -> Moment
+        requires sound { IsSound self.now }
+        requires from { self.now.known_from ≤ℤ after }
+        requires to { after <ℤ self.now.known_to }
+        ensures after { after <ℤ result }
+        ensures next { (t : ℤ) → Has self.now t → after <ℤ t → result ≤ℤ t }
+    {
+        let passed = passed(&self.found, after);
+        if passed < self.found.len() {
+            self.found[passed]
+        } else {
+            self.known_to
+        }
+    }
+
     /// The first onset after an instant, or the limit if there is none before it.
     pub fn next(&self, after: Moment, limit: Moment) -> Moment
         requires sound { IsSound self.now }
@@ -339,8 +493,8 @@ impl Onsets {
         ensures bound { result ≤ℤ limit }
         ensures next { (t : ℤ) → Has self.now t → after <ℤ t → result ≤ℤ t }
     {
-        if self.quiet_from <= after && after < self.quiet_to {
-            return limit.min(self.quiet_to);
+        if self.is_known(after) {
+            return limit.min(self.known_next(after));
         }
         let kept = self.next_by_rule(after, limit);
         self.next_listed(after, kept)

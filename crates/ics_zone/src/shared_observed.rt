@@ -11,12 +11,17 @@ use std::alloc::{AllocError, Global};
 use std::marker::Model;
 use std::rc::Rc;
 
+/// Between no instants.
+const NOWHERE: (Moment, Moment) = (Moment::MAX, Moment::MIN);
+
 /// A zone by observances, held once for all files that share it, with the instants of locals of one file. Contracts see the observances.
 #[derive(Drop)]
 pub(crate) struct SharedObserved {
     zone: Rc<Observed>,
     /// Locals that will be asked for, given by their seconds.
     noted: Vec<i64>,
+    /// Between which instants the zone will be asked again and again, if the first is not after the second.
+    through: (Moment, Moment),
     /// Locals whose instants are known, in order.
     answers: Vec<Answer>,
 }
@@ -42,6 +47,7 @@ impl SharedObserved {
             Ok(zone) => Ok(SharedObserved {
                 zone,
                 noted: Vec::new(alloc),
+                through: NOWHERE,
                 answers: Vec::new(alloc),
             }),
             Err(_) => Err(AllocError),
@@ -56,6 +62,7 @@ impl SharedObserved {
         Ok(SharedObserved {
             zone: self.zone.clone()?,
             noted: Vec::new(alloc),
+            through: NOWHERE,
             answers: Vec::new(alloc),
         })
     }
@@ -106,10 +113,32 @@ impl SharedObserved {
         }
     }
 
-    /// Finds the instants of all locals that were noted, so that answers are faster. None changes.
+    /// Takes note of instants between which the zone will be asked again and again.
+    pub fn note_through(&mut self, from: Moment, to: Moment)
+        ensures { self.new ≡ self.old }
+    {
+        self.through = (self.through.0.min(from), self.through.1.max(to));
+    }
+
+    /// Finds the onsets between the instants that were noted, if the zone is not shared yet, so that answers are faster. None changes.
+    fn find(&mut self)
+        ensures { self.new ≡ self.old }
+    {
+        let (from, to) = self.through;
+        if from > to {
+            return;
+        }
+        self.through = NOWHERE;
+        if let Some(zone) = Rc::get_mut(&mut self.zone) {
+            zone.find_through(from, to);
+        }
+    }
+
+    /// Finds the onsets between the instants and then the instants of all locals that were noted, so that answers are faster. None changes.
     pub fn learn(&mut self)
         ensures { self.new ≡ self.old }
     {
+        self.find();
         if self.noted.is_empty() {
             return;
         }

@@ -142,6 +142,16 @@ impl Zone {
         }
     }
 
+    /// Takes note of instants between which the zone will be asked again and again. No answer changes.
+    pub fn note_through(&mut self, from: Moment, to: Moment)
+        ensures { self.new ≡ self.old }
+    {
+        match &mut self.kind {
+            ZoneKind::ByObservances(observed) => observed.note_through(from, to),
+            ZoneKind::ByJiff(_) => {}
+        }
+    }
+
     /// Makes answers for the locals that were noted faster and changes none: each is found once or, of many observances, the onsets near them are listed
     /// once for all. Those for which no memory is found are answered as before.
     pub fn learn(&mut self)

@@ -55,17 +55,25 @@ IsEnd from end r =
     (n : ℕ) → n < rules_end
     → (is_kept r n && is_until (until_moment r) (instant_by from n)) ≡ (is_kept (without_count r) n && int_le (instant_by from n) end)
 
--- no onset is in the time that is known to have none
-unfoldable pub IsQuiet : Onsets → Type 0
-IsQuiet onsets = (t : ℤ) → Has onsets t → onsets.quiet_from <ℤ t → onsets.quiet_to ≤ℤ t
+-- a list has, in order, those of a set of instants that are after one instant and before another, and no other
+pub record AreFound (set : ℤ → Type 0) (from to : ℤ) (list : List ℤ) : Type 0 where
+  pub in_order : IsInOrder list
+  pub known : (t : ℤ) → Contains list t → set t
+  pub late : (t : ℤ) → Contains list t → from <ℤ t
+  pub early : (t : ℤ) → Contains list t → t <ℤ to
+  pub complete : (t : ℤ) → set t → from <ℤ t → t <ℤ to → Contains list t
 
--- the onsets are listed in order, none is earlier than the first listed one, and none is in the quiet time
+-- those after one instant and before another are found
+unfoldable pub IsFound : Onsets → Type 0
+IsFound onsets = AreFound (Has onsets) onsets.known_from onsets.known_to onsets.found.items
+
+-- the onsets are listed in order, none is earlier than the first listed one, and those of a time are found
 pub record IsSound (onsets : Onsets) : Type 0 where
   pub from_in : IsWithin 86_399 onsets.offset_from
   pub some : 0 < length onsets.listed.items
   pub in_order : IsInOrder onsets.listed.items
   pub first : (t d : ℤ) → IsKeptAt onsets t → slice_index_or onsets.listed.items 0 d ≤ℤ t
-  pub quiet : IsQuiet onsets
+  pub found : IsFound onsets
 
 -- the onsets are those of an observance
 pub record AreOnsetsOf (p : ObservanceSaid) (onsets : Onsets) : Type 0 where

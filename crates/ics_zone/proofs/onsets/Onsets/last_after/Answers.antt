@@ -30,3 +30,12 @@ returns-in-Some-None-clause-last c =
     let listed = simp (to_z-of_z, c.ranges.moment) at c.in-Some-None.ensures in
     rw (to_z-of_z w64 c.in-Some-None.listed (search rules))
     (first_after c.args.self.now listed.0 listed.1 (simp (to_z-of_z, c.ranges.moment) at c.in-Some-None.ensures'))
+
+-- the last one is known
+pub returns-else-last-after-clause-last : goal.returns-else-last-after-clause-last
+returns-else-last-after-clause-last c = λ t h early.
+    let fits : SFits w64 c.in-Some.last = search rules in
+    let not_late = simp (to_z-of_z, c.ranges.after, fits) at c.if-last-after.false in
+    let is = simp (to_z-of_z, c.ranges.moment) at c.in-Some.ensures in
+    let low = is.last t h early in
+    omega (arith, ints, low, not_late)

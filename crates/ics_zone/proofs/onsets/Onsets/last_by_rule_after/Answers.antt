@@ -19,4 +19,7 @@ returns-then-last-after c = rw (to_z-of_z w64 c.instant-last.result (search rule
 
 pub returns-else-last-after : goal.returns-else-last-after
 returns-else-last-after c = λ u h l.
-    let low = (last (goal.at.returns-else-last-after c).After-instant-last).last u h l in grind (arith, ints)
+    let low = (last (goal.at.returns-else-last-after c).After-instant-last).last u h l in
+    let fits : SFits w64 c.instant-last.result = search rules in
+    let not_late = simp (to_z-of_z, c.ranges.after, fits) at c.if-last-after.false in
+    omega (arith, ints, low, not_late)

@@ -1,17 +1,19 @@
 use Rattle.std.proofs.Common.{rules, SFits, w64, arith}
 use Rattle.std.proofs.lemmas.Int.{ints, clamps, to_z-of_z}
 use Rattle.ics_zone.proofs.KeptLemmas.{earlier_of}
-use Rattle.ics_zone.proofs.QuietLemmas.{quiet_none}
 use Rattle.ics_zone.proofs.onsets.Onsets.next.Goals as goal
 
-pub returns-then-after-self-clause-next : goal.returns-then-after-self-clause-next
-returns-then-after-self-clause-next c = λ t h late.
-    let from : SFits w64 c.args.self.now.quiet_from = search rules in
-    let to : SFits w64 c.args.self.now.quiet_to = search rules in
-    let low = simp (to_z-of_z, c.ranges.after, from) at c.if-self-after.true in
-    let bound = simp (to_z-of_z, c.ranges.limit, to) at c.min.ensures.value in
-    let next = quiet_none c.args.self.now c.requires.sound.quiet t h (omega (arith, ints, low, late)) in
-    omega (arith, ints, clamps, bound, next, to_z-of_z w64 c.min.result (search rules))
+pub returns-then-is_known : goal.returns-then-is_known
+returns-then-is_known c =
+    let known : SFits w64 c.known_next.result = search rules in
+    let value = simp (to_z-of_z, c.ranges.limit, known) at c.min.ensures.value in
+    let after = simp (to_z-of_z, c.ranges.after) at c.known_next.ensures.after in
+    let next = simp (to_z-of_z, c.ranges.after) at c.known_next.ensures.next in
+    rw (to_z-of_z w64 c.min.result (search rules)) (record {
+      after = omega (arith, ints, clamps, value, after, c.requires.limit);
+      bound = omega (arith, ints, clamps, value);
+      next = λ t h late. let low = next t h late in omega (arith, ints, clamps, value, low);
+    })
 
 pub returns : goal.returns
 returns c =
