@@ -1,10 +1,11 @@
 -- Which starts EXDATEs take out.
-use Rattle.std.proofs.Common.{◌≡◌, ℕ, ℤ, ◌+ℤ◌, Bool, true, false, ◌||◌, List, [], ◌∷◌, length, Result, is_ok, refl, sym, ◌∙◌, ap, arith}
-use Rattle.std.proofs.Common.{◌<ℤ◌, ◌-ℤ◌, w64, to_z, of_z, not, int_cmp, int_eq}
+use Rattle.std.proofs.Common.{◌≡◌, ◌<◌, ℕ, ℤ, ◌+ℤ◌, ◌≤ℤ◌, Bool, true, false, ◌||◌, List, [], ◌∷◌, ◌++◌, length, get_or, Result, is_ok, refl, sym, ◌∙◌, ap}
+use Rattle.std.proofs.Common.{◌<ℤ◌, ◌-ℤ◌, w64, to_z, of_z, not, int_cmp, int_eq, arith}
 use Rattle.std.specs.List.{list_any}
 use Rattle.std.specs.List.Sorted.{IsBinarySearchResult, IsPermutation, IsSearchInRange, IsSorted}
 use Rattle.std.proofs.lemmas.Cmp.{int_cmp_total}
 use Rattle.std.proofs.lemmas.Int.{ints}
+use Rattle.std.proofs.lemmas.List.Elements.{Contains-get_or}
 use Rattle.std.proofs.lemmas.List.Folds.{list_any-append}
 use Rattle.std.proofs.lemmas.List.Sorted.{list_any-IsPermutation}
 use Rattle.std.proofs.Math.Bool.{or-false}
@@ -16,13 +17,13 @@ use Rattle.ics_zone.proofs.Cases.{int_le_true}
 use Rattle.ics_listing.specs.declared.window.Window.{Window}
 use Rattle.ics_starts.specs.declared.zones.FileZones.{FileZones}
 use Rattle.ics_listing.specs.FileClocks.{Clock, Clocks}
-use Rattle.ics_starts.specs.Clocks.{instant}
+use Rattle.ics_starts.specs.Clocks.{clock_of, instant}
 use Rattle.ics_event.specs.Event.{stamp_seconds}
-use Rattle.ics_starts.specs.Exclusions.{excludes_by, excludes_time, is_day_in, takes_out, with_instant}
-use Rattle.ics_starts.specs.FileZones.{clocks_in, is_past}
+use Rattle.ics_starts.specs.Exclusions.{excludes_by, excludes_time, is_day_in, shown_day, takes_out, with_instant}
+use Rattle.ics_starts.specs.FileZones.{clocks_in, is_early, is_outside, is_past}
 use Rattle.ics_starts.proofs.InstantLemmas.{instant-near}
 use Rattle.ics_fields.specs.Locals.{whole_days}
-use Rattle.ics_listing.proofs.ListingLemmas.{search-finds}
+use Rattle.ics_listing.proofs.ListingLemmas.{in-any, in-contains, search-finds}
 
 -- how far two offsets lie apart
 pub apart-back : {least most : ℤ} → IsWithin 93_599 least → IsWithin 93_599 most
@@ -34,33 +35,91 @@ pub found-in : (xs : List ℤ) (x : ℤ) (r : Result ℕ ℕ) → IsSorted int_c
     is_ok r ≡ list_any (λ y. int_eq y x) xs
 found-in xs x r s b h = search-finds int_cmp_total (λ y. y) x xs r s b h
 
+-- what passes a test stands at a place
+pub any-at : {X : Type 0} (test : X → Bool) (xs : List X) (k : ℕ) (x : X) → k < length xs → x ≡ get_or xs k x → test x ≡ true → list_any test xs ≡ true
+any-at test xs k x l is e =
+    in-any test (get_or xs k x) xs (ap test (sym is) ∙ e) (in-contains (get_or xs k x) xs (Contains-get_or xs k x l))
+
+-- what implies the first of two implies it of both
+pub or-more : (a b c : Bool) → (a ≡ true → b ≡ true) → (a || c) ≡ true → (b || c) ≡ true
+or-more true b c h e = rw (h refl) refl
+or-more false true c h e = refl
+or-more false false c h e = e
+
 -- One more instant.
 or-moved : (a b c : Bool) → ((a || (b || false)) || c) ≡ ((a || c) || b)
 or-moved a b c = grind arith
 
-later-false : (zones : FileZones) (w : Window) (time : Time) (t : ℤ) → t <ℤ w.to → is_past w time ≡ true → int_eq (instant (clocks_in zones) time) t ≡ false
-later-false zones w time t early past =
-    let late = int_le_true (w.to +ℤ whole_days 2) (stamp_seconds time.stamp) past in
-    unequal (instant (clocks_in zones) time) t (omega (arith, ints, late, early, instant-near zones time))
-  where
-    unequal : (a b : ℤ) → b <ℤ a → int_eq a b ≡ false
-    unequal a b l = grind (arith, ints)
+less-unequal : (a b : ℤ) → a <ℤ b → int_eq a b ≡ false
+less-unequal a b l = grind (arith, ints)
 
--- the instant of a time takes out the start there, or lies past the window
-module _ (zones : FileZones) (w : Window) (clock : Clock) (instants days : List ℤ) where
-  pub pushed-instant : {new : List ℤ} (time : Time) {t : ℤ} → t <ℤ w.to → new ≡ with_instant (not (is_past w time)) instants (instant (clocks_in zones) time)
+more-unequal : (a b : ℤ) → b <ℤ a → int_eq a b ≡ false
+more-unequal a b l = grind (arith, ints)
+
+-- a time that its local tells to be before an instant, or past it, is not there
+pub early-false : (zones : FileZones) (time : Time) (t : ℤ) → (stamp_seconds time.stamp +ℤ whole_days 2) ≤ℤ t
+    → int_eq (instant (clocks_in zones) time) t ≡ false
+early-false zones time t l = less-unequal (instant (clocks_in zones) time) t (omega (arith, ints, l, instant-near zones time))
+
+pub later-false : (zones : FileZones) (time : Time) (t : ℤ) → (t +ℤ whole_days 2) ≤ℤ stamp_seconds time.stamp
+    → int_eq (instant (clocks_in zones) time) t ≡ false
+later-false zones time t l = more-unequal (instant (clocks_in zones) time) t (omega (arith, ints, l, instant-near zones time))
+
+outside-false : (zones : FileZones) (w : Window) (from : ℤ) (time : Time) (t : ℤ) → from ≤ℤ t → t <ℤ w.to → is_outside w from time ≡ true
+    → int_eq (instant (clocks_in zones) time) t ≡ false
+outside-false zones w from time t on early = by (is_early from time) refl
+  where
+    by : (b : Bool) → is_early from time ≡ b → (b || is_past w time) ≡ true → int_eq (instant (clocks_in zones) time) t ≡ false
+    by true e h = let l = int_le_true (stamp_seconds time.stamp +ℤ whole_days 2) from e in early-false zones time t (omega (arith, ints, l, on))
+    by false e h = let l = int_le_true (w.to +ℤ whole_days 2) (stamp_seconds time.stamp) h in later-false zones time t (omega (arith, ints, l, early))
+
+-- the instant of a time takes out the start there, or lies before another or past the window
+module _ (zones : FileZones) (w : Window) (from : ℤ) (clock : Clock) (instants days : List ℤ) where
+  added : (moment t : ℤ) → takes_out clock (with_instant true instants moment) days t ≡ (takes_out clock instants days t || int_eq moment t)
+  added moment t =
+      rw (list_any-append (λ x. int_eq x t) instants (moment ∷ []))
+      (or-moved (list_any (λ x. int_eq x t) instants) (int_eq moment t) (is_day_in clock days t))
+
+  pub pushed-instant : {new : List ℤ} (time : Time) {t : ℤ} → from ≤ℤ t → t <ℤ w.to
+      → new ≡ with_instant (not (is_outside w from time)) instants (instant (clocks_in zones) time)
       → takes_out clock new days t ≡ (takes_out clock instants days t || int_eq (instant (clocks_in zones) time) t)
-  pushed-instant time {t = t} early e =
-      ap (λ xs. takes_out clock xs days t) e ∙ by (instant (clocks_in zones) time) (is_past w time) (later-false zones w time t early)
+  pushed-instant time {t = t} on early e =
+      ap (λ xs. takes_out clock xs days t) e
+      ∙ by (instant (clocks_in zones) time) (is_outside w from time) (outside-false zones w from time t on early)
     where
-      by : (moment : ℤ) (past : Bool) → (past ≡ true → int_eq moment t ≡ false)
-          → takes_out clock (with_instant (not past) instants moment) days t ≡ (takes_out clock instants days t || int_eq moment t)
+      by : (moment : ℤ) (out : Bool) → (out ≡ true → int_eq moment t ≡ false)
+          → takes_out clock (with_instant (not out) instants moment) days t ≡ (takes_out clock instants days t || int_eq moment t)
       by moment true h = sym (ap (λ b. takes_out clock instants days t || b) (h refl) ∙ or-false (takes_out clock instants days t))
-      by moment false h =
-          rw (list_any-append (λ x. int_eq x t) instants (moment ∷ []))
-          (or-moved (list_any (λ x. int_eq x t) instants) (int_eq moment t) (is_day_in clock days t))
+      by moment false h = added moment t
+
+  -- and no other
+  pub pushed-only : {new : List ℤ} (time : Time) (t : ℤ) → new ≡ with_instant (not (is_outside w from time)) instants (instant (clocks_in zones) time)
+      → takes_out clock new days t ≡ true → (takes_out clock instants days t || int_eq (instant (clocks_in zones) time) t) ≡ true
+  pushed-only time t e h =
+      by (instant (clocks_in zones) time) (is_outside w from time) (ap (λ xs. takes_out clock xs days t) (sym e) ∙ h)
+    where
+      by : (moment : ℤ) (out : Bool) → takes_out clock (with_instant (not out) instants moment) days t ≡ true
+          → (takes_out clock instants days t || int_eq moment t) ≡ true
+      by moment true k = rw k refl
+      by moment false k = sym (added moment t) ∙ k
+
+-- a day more takes out the starts at which the clock shows it
+or-third : (a b c : Bool) → (a || (b || (c || false))) ≡ ((a || b) || c)
+or-third a b c = grind arith
+
+pub pushed-day : (clock : Clock) (instants days : List ℤ) (day t : ℤ)
+    → takes_out clock instants (days ++ (day ∷ [])) t ≡ (takes_out clock instants days t || int_eq day (shown_day clock t))
+pushed-day clock instants days day t =
+    rw (list_any-append (λ x. int_eq x (shown_day clock t)) days (day ∷ []))
+    (or-third (list_any (λ x. int_eq x t) instants) (is_day_in clock days t) (int_eq day (shown_day clock t)))
 
 module _ (clocks : Clocks) (first exdate : Time) where
+  -- of date-times a date takes out those that DTSTART's clock shows on it
+  pub excludes-day : (s : Stamp) (day t : ℤ) → ((d : ℤ) → s ≡ Date d → ⊥) → exdate.stamp ≡ Date day
+      → excludes_by clocks first s exdate t ≡ int_eq day (shown_day (clock_of clocks first) t)
+  excludes-day (Date d) day t h e = absurd (h d refl)
+  excludes-day _ day t h e = ap (λ (x : Stamp). excludes_time clocks first exdate x t) e
+
   excludes-time : (s : Stamp) (t : ℤ) → ((day : ℤ) → s ≡ Date day → ⊥) → excludes_time clocks first exdate s t ≡ int_eq (instant clocks exdate) t
   excludes-time (Date day) t h = absurd (h day refl)
   excludes-time _ t h = refl

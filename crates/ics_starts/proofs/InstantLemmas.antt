@@ -178,7 +178,7 @@ later-bounded clock b duration t h =
 
 module _ (zones : FileZones) where
   -- a duration leads less than four days past its seconds
-  later-bound : (zone : Option ℕ) (s : Stamp) (duration : Duration) (t : ℤ)
+  pub later-bound : (zone : Option ℕ) (s : Stamp) (duration : Duration) (t : ℤ)
       → later_by (clock_by (clocks_in zones) zone s) duration t <ℤ ((t +ℤ pos (duration.days * 86_400 + duration.seconds)) +ℤ whole_days 4)
   later-bound zone s duration t =
       let c : Clock = clock_by (clocks_in zones) zone s in

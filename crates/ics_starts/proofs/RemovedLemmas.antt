@@ -15,11 +15,10 @@ use Rattle.ics_starts.specs.FileZones.{clocks_in}
 use Rattle.ics_starts.specs.Meeting.{entry_from}
 use Rattle.ics_listing.specs.WindowMeeting.{is_met}
 use Rattle.ics_starts.specs.RuleFeed.{IsDayShown}
-use Rattle.ics_starts.specs.RuleStarts.{gives, moment_numbered}
+use Rattle.ics_starts.specs.RuleStarts.{moment_numbered}
 use Rattle.ics_starts.specs.SeriesStarts.{wanted_by}
 use Rattle.ics_listing.specs.StartTimes.{time_of}
 use Rattle.ics_starts.proofs.PassedLemmas.{own-of, IsTest}
-use Rattle.ics_starts.proofs.RuleDayLemmas.{given-parts}
 use Rattle.ics_starts.proofs.SettledLemmas.{moment-read}
 
 -- A series of date-times.
@@ -31,19 +30,18 @@ module _ (s : Series) (apart : (day : ℤ) → s.event.now.start.stamp ≡ Date 
   event = s.event.now
 
   -- what is passed over is removed
-  removed : (a : RuleStarts) → s.rule_starts ≡ Some a → (n : ℕ) → IsDayShown s.exclusions.days.items a n → gives clocks event a.rule s.window n ≡ true
+  removed : (a : RuleStarts) → s.rule_starts ≡ Some a → (n : ℕ) → IsDayShown s.exclusions.days.items a n
       → is_excluded clocks event (moment_numbered clocks event n) ≡ true
-  removed a is n shown g =
+  removed a is n shown =
       let t = moment_numbered clocks event n in
       let clock = clock_of clocks event.start in
       let own = own-of s a is in
-      let early = (given-parts s.zones event a.rule s.window n g).2 in
       let clocks-are : clock_of (clocks_in a.zones) a.event.now.start ≡ clock_of clocks event.start =
       λ i. clock_of (clocks_in (own.zones_are i)) (own.event_is i).start in
       let there = subst (λ (c : Clock). is_day_in c s.exclusions.days.items (c.moment (pos n -ℤ pos (year_number 1_970))) ≡ true) clocks-are shown in
       let day : is_day_in (clock_of clocks event.start) s.exclusions.days.items (moment_numbered clocks event n) ≡ true =
       ap (is_day_in clock s.exclusions.days.items) (moment-read clocks event apart n) ∙ there in
-      sym (s.taken_out t early) ∙ or_right (is_among s.exclusions.instants.items t) (is_day_in clock s.exclusions.days.items t) day
+      s.taken_out.only t (or_right (is_among s.exclusions.instants.items t) (is_day_in clock s.exclusions.days.items t) day)
 
   abbrev own-entry : Start → Entry
   own-entry t = entry_from clocks event t.given
@@ -58,4 +56,4 @@ module _ (s : Series) (apart : (day : ℤ) → s.event.now.start.stamp ≡ Date 
       by x y z v e = grind arith
 
   pub removed-test : IsTest s (IsDayShown s.exclusions.days.items) (λ t. not (is_excluded clocks event t))
-  removed-test = record { out = λ a is n shown g. ap not (removed a is n shown g); unwanted = λ t at from e. unwanted t at e }
+  removed-test = record { out = λ a is n shown g. ap not (removed a is n shown); unwanted = λ t at from e. unwanted t at e }

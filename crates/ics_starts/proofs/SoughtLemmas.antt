@@ -1,7 +1,8 @@
 -- The starts at DTSTART and by RDATEs, and that those that are sought are among those that are found.
 use Rattle.std.proofs.Common.{◌≡◌, ℕ, suc, ◌+◌, ◌<◌, ℤ, ◌+ℤ◌, ◌-ℤ◌, ◌<ℤ◌, ◌≤ℤ◌, List, [], ◌∷◌, length, get_or, drop, add-one, Bool, true, false, Some}
-use Rattle.std.proofs.Common.{Option, pos}
+use Rattle.std.proofs.Common.{Option, pos, ◌&&◌, int_le}
 use Rattle.std.proofs.Common.{None, option_map, inl, inr, ⊎_elim, sym, ◌∙◌, ap, subst, arith, zero, ◌⊎◌, refl, drop-cons, slice_get, not, if◌then◌else◌}
+use Rattle.std.specs.Int.{int_min}
 use Rattle.std.proofs.lemmas.Int.{int_max_is, int_min_is, ints}
 use Rattle.ics_event.specs.declared.event.Event.{Event}
 use Rattle.ics_event.specs.Event.{Rdate}
@@ -15,16 +16,19 @@ use Rattle.ics_listing.specs.FileClocks.{Clocks}
 use Rattle.ics_starts.specs.Clocks.{clock_by, clock_of, instant, IsBounded}
 use Rattle.ics_zone.specs.declared.bounds.Bounds.{Bounds}
 use Rattle.ics_event.specs.Event.{stamp_seconds}
-use Rattle.ics_starts.specs.Finish.{days_lasting, end_by, seconds_by, seconds_lasting}
-use Rattle.ics_starts.specs.Found.{earlier, earliest, earliest_from, first_met, is_span_met, listed_from, start_at, start_by, IsSought, with_front}
+use Rattle.ics_starts.specs.Finish.{days_lasting, end_by, seconds_by, seconds_lasting, span_end}
+use Rattle.ics_starts.specs.Found.{counts_by, counts_from, counts_with, earlier, earliest, earliest_from, first_met, is_over, is_span_met, listed_from}
+use Rattle.ics_starts.specs.Found.{span_local, start_at, start_by, IsSought, with_front}
+use Rattle.ics_starts.specs.SeriesStarts.{listed_of}
 use Rattle.ics_starts.specs.Leeway.{late_by, late_within, rule_late, seconds_late}
 use Rattle.ics_listing.specs.Listing.{IsIn}
 use Rattle.ics_starts.specs.Meeting.{entry_from}
 use Rattle.ics_starts.specs.MeetsWindow.{Meets}
 use Rattle.ics_starts.specs.Starts.{given_by, recurrence_by, GivesStart}
 use Rattle.ics_listing.specs.StartTimes.{local_of, stamp_at, time_at, time_of}
-use Rattle.ics_starts.specs.FileZones.{clocks_in, is_past}
-use Rattle.ics_starts.proofs.InstantLemmas.{bounds-apart, instant-near, later-bounded, meets-late, seconds-least}
+use Rattle.ics_starts.specs.FileZones.{clocks_in, is_early, is_outside, is_past}
+use Rattle.ics_starts.proofs.InstantLemmas.{bounds-apart, instant-near, later-bound, later-bounded, meets-late, seconds-least}
+use Rattle.ics_zone.proofs.Cases.{int_le_true}
 use Rattle.ics_starts.proofs.MeetsLemmas.{less-le, meets-is_met}
 use Rattle.ics_fields.specs.Locals.{midnight, whole_days}
 use Rattle.ics_fields.specs.declared.local.Local.{Local}
@@ -42,7 +46,7 @@ pub record IsListed (clocks : Clocks) (first : Time) (place : ℕ) (rdates : Lis
   pub stands : slice_get rdates index ≡ Some rdate
   pub is : s ≡ start_by clocks (Listed (place + index)) (given_by first rdate)
 
-module _ (clocks : Clocks) (w : Window) (first : Time) where
+module _ (clocks : Clocks) (w : Window) (from : ℤ) (first : Time) where
   behind : (place : ℕ) (r : Rdate) (rdates : List Rdate) (s : Start) → IsListed clocks first (place + 1) rdates s → IsListed clocks first place (r ∷ rdates) s
   behind place r rdates s k = record {
     index = suc k.index;
@@ -55,31 +59,33 @@ module _ (clocks : Clocks) (w : Window) (first : Time) where
   in-front true s x xs m = m
   in-front false s x xs m = inr m
 
-  pub listed-in : (place : ℕ) (rdates : List Rdate) (s : Start) → IsIn s (listed_from clocks w first place rdates) → IsListed clocks first place rdates s
+  pub listed-in : (place : ℕ) (rdates : List Rdate) (s : Start) → IsIn s (listed_from clocks w from first place rdates) → IsListed clocks first place rdates s
   listed-in place [] s m = absurd m
   listed-in place (r ∷ rdates) s m =
       ⊎_elim
       (λ e. record { index = 0; rdate = r; stands = refl; is = e ∙ ap (λ n. start_by clocks (Listed n) (given_by first r)) (omega arith) })
       (λ n. behind place r rdates s (listed-in (place + 1) rdates s n))
-      (in-front (not (is_past w (time_of (given_by first r)))) s (start_by clocks (Listed place) (given_by first r))
-      (listed_from clocks w first (place + 1) rdates) m)
+      (in-front (not (is_outside w from (time_of (given_by first r)))) s (start_by clocks (Listed place) (given_by first r))
+      (listed_from clocks w from first (place + 1) rdates) m)
 
   rest-in : (b : Bool) (s x : Start) (xs : List Start) → IsIn s xs → IsIn s (with_front b x xs)
   rest-in true s x xs m = inr m
   rest-in false s x xs m = m
 
-  -- each of them that can begin before the window's end is there
+  -- each of them whose local does not tell that it is out of reach is there
   pub in-listed : (place k : ℕ) (rdates : List Rdate) {r : Rdate} {at : ℕ} → at ≡ place + k → slice_get rdates k ≡ Some r →
-      is_past w (time_of (given_by first r)) ≡ false → IsIn (start_by clocks (Listed at) (given_by first r)) (listed_from clocks w first place rdates)
+      is_outside w from (time_of (given_by first r)) ≡ false →
+      IsIn (start_by clocks (Listed at) (given_by first r)) (listed_from clocks w from first place rdates)
   in-listed place k [] {r = r} a e p = let f : None ≡ Some r = e in absurd cc
   in-listed place zero (q ∷ rdates) {r = r} {at = at} a e p =
       let same : r ≡ q = some-same r q (sym e) in
       let here : at ≡ place = omega (arith, a) in
-      let wanted : not (is_past w (time_of (given_by first q))) ≡ true = ap (λ x. not (is_past w (time_of (given_by first x)))) (sym same) ∙ ap not p in
+      let wanted : not (is_outside w from (time_of (given_by first q))) ≡ true =
+      ap (λ x. not (is_outside w from (time_of (given_by first x)))) (sym same) ∙ ap not p in
       rw wanted (inl (λ i. start_by clocks (Listed (here i)) (given_by first (same i))))
   in-listed place (suc k) (q ∷ rdates) {r = r} {at = at} a e p =
-      rest-in (not (is_past w (time_of (given_by first q)))) (start_by clocks (Listed at) (given_by first r))
-      (start_by clocks (Listed place) (given_by first q)) (listed_from clocks w first (place + 1) rdates)
+      rest-in (not (is_outside w from (time_of (given_by first q)))) (start_by clocks (Listed at) (given_by first r))
+      (start_by clocks (Listed place) (given_by first q)) (listed_from clocks w from first (place + 1) rdates)
       (in-listed (place + 1) k rdates (omega (arith, a)) e p)
 
 -- From where on the rule is asked.
@@ -131,18 +137,57 @@ late-range [] (Zoned local) (Until end) apart h = (omega (arith, ints), omega (a
 
 -- the starts at DTSTART and by RDATEs
 abbrev pub front : Clocks → Window → Event → List Start
-front clocks w event = start_at clocks event (local_of event.start.stamp) ∷ listed_from clocks w event.start 0 event.rdates
+front clocks w event = start_at clocks event (local_of event.start.stamp) ∷ listed_of clocks w event
+
+-- From where on RDATEs count.
+module _ (w : Window) (first : Time) where
+  abbrev before : Time → ℤ
+  before start = stamp_seconds start.stamp -ℤ whole_days 2
+
+  with-most : (least : ℤ) (r : Rdate) → counts_with w least r ≤ℤ least
+  with-most least (At time) = omega (arith, ints)
+  with-most least (Span start length) = by (is_over w start length)
+    where
+      by : (b : Bool) → (if b then least else int_min least (before start)) ≤ℤ least
+      by true = omega (arith, ints)
+      by false = omega (arith, ints, int_min_is least (before start))
+
+  with-span : (least : ℤ) (start : Time) (length : Length) → is_over w start length ≡ false → counts_with w least (Span start length) ≤ℤ before start
+  with-span least start length = by (is_over w start length)
+    where
+      by : (b : Bool) → b ≡ false → (if b then least else int_min least (before start)) ≤ℤ before start
+      by true e = let f : true ≡ false = e in absurd cc
+      by false e = omega (arith, ints, int_min_is least (before start))
+
+  counts-most : (least : ℤ) (rdates : List Rdate) → counts_by w first least rdates ≤ℤ least
+  counts-most least [] = omega (arith, ints)
+  counts-most least (r ∷ rdates) =
+      omega (arith, ints, counts-most (counts_with w least (given_by first r)) rdates, with-most least (given_by first r))
+
+  counts-each : (least : ℤ) (k : ℕ) (rdates : List Rdate) {r : Rdate} (start : Time) (length : Length) → slice_get rdates k ≡ Some r
+      → given_by first r ≡ Span start length → is_over w start length ≡ false → counts_by w first least rdates ≤ℤ before start
+  counts-each least k [] {r = r} start length e g o = let f : None ≡ Some r = e in absurd cc
+  counts-each least zero (q ∷ rdates) {r = r} start length e g o =
+      let is : given_by first q ≡ Span start length = ap (given_by first) (some-same q r e) ∙ g in
+      let one = subst (λ v. counts_with w least v ≤ℤ before start) (sym is) (with-span least start length o) in
+      omega (arith, ints, counts-most (counts_with w least (given_by first q)) rdates, one)
+  counts-each least (suc k) (q ∷ rdates) start length e g o = counts-each (counts_with w least (given_by first q)) k rdates start length e g o
 
 module _ (zones : FileZones) (w : Window) (event : Event) where
-  pub listed-there : (place : ℕ) (given : Rdate) → GivesStart (clocks_in zones) event (Listed place) given → instant (clocks_in zones) (time_of given) <ℤ w.to →
-      IsIn (start_by (clocks_in zones) (Listed place) given) (front (clocks_in zones) w event)
-  listed-there place given g early =
+  -- from when on the starts by RDATEs count
+  abbrev counted : ℤ
+  counted = counts_from (clocks_in zones) w event
+
+  pub listed-there : (place : ℕ) (given : Rdate) → GivesStart (clocks_in zones) event (Listed place) given → instant (clocks_in zones) (time_of given) <ℤ w.to
+      → is_early counted (time_of given) ≡ false → IsIn (start_by (clocks_in zones) (Listed place) given) (front (clocks_in zones) w event)
+  listed-there place given g early late =
       let time = time_of (given_by event.start g.0) in
       let same = ap (λ x. instant (clocks_in zones) (time_of x)) g.2 in
       let past : is_past w time ≡ false =
       less-le (w.to +ℤ whole_days 2) (stamp_seconds time.stamp) (omega (arith, ints, same, early, instant-near zones time)) in
-      inr (subst (λ v. IsIn (start_by (clocks_in zones) (Listed place) v) (listed_from (clocks_in zones) w event.start 0 event.rdates)) (sym g.2)
-      (in-listed (clocks_in zones) w event.start 0 place event.rdates (omega arith) g.1 past))
+      let outside : is_outside w counted time ≡ false = rw (past, ap (λ v. is_early counted (time_of v)) (sym g.2) ∙ late) refl in
+      inr (subst (λ v. IsIn (start_by (clocks_in zones) (Listed place) v) (listed_of (clocks_in zones) w event)) (sym g.2)
+      (in-listed (clocks_in zones) w counted event.start 0 place event.rdates (omega arith) g.1 outside))
 
   pub sought-early : (t : ℤ) → IsSought (clocks_in zones) event w t → t <ℤ w.to
   sought-early t s = omega (arith, ints, s.starts, s.meets.begun)
@@ -151,6 +196,48 @@ module _ (zones : FileZones) (w : Window) (event : Event) where
       ((if b then w.from else w.from -ℤ seconds_lasting (clocks_in zones) event) -ℤ whole_days 4) ≤ℤ instant (clocks_in zones) time
   met-late time m true e = omega (arith, ints, m.started e)
   met-late time m false e = meets-late zones event w time m
+
+  -- a PERIOD ends less than six days past what its locals say
+  span-late : (start : Time) (length : Length) → span_end (clocks_in zones) start length <ℤ (span_local start length +ℤ whole_days 6)
+  span-late start Open = omega (arith, ints, instant-near zones start)
+  span-late start (Until end) = omega (arith, ints, instant-near zones end)
+  span-late start (Lasting duration) =
+      omega (arith, ints, later-bound zones start.zone start.stamp duration (instant (clocks_in zones) start), instant-near zones start)
+
+  -- so one that meets the window is not over
+  met-span : (start : Time) (length : Length) → Meets w (entry_from (clocks_in zones) event (Span start length)) → is_over w start length ≡ false
+  met-span start length m = by (int_le (stamp_seconds start.stamp) from) (int_le (span_local start length) from) refl refl
+    where
+      from : ℤ
+      from = w.from -ℤ whole_days 6
+
+      by : (a b : Bool) → int_le (stamp_seconds start.stamp) from ≡ a → int_le (span_local start length) from ≡ b → (a && b) ≡ false
+      by true true p q =
+          let begun = int_le_true (stamp_seconds start.stamp) from p in
+          let ended = int_le_true (span_local start length) from q in
+          let near = instant-near zones start in
+          let end = span-late start length in
+          let most = int_max_is (instant (clocks_in zones) start) (span_end (clocks_in zones) start length) in
+          absurd (⊎_elim (λ l. omega (arith, ints, begun, ended, near, end, most, l)) (λ r. omega (arith, ints, begun, near, r.1)) m.lasting)
+      by true false p q = refl
+      by false b p q = refl
+
+  -- no time at an instant that is sought is before the one from which on starts by RDATEs count
+  pub sought-counts : (t : ℤ) → IsSought (clocks_in zones) event w t → (time : Time) → instant (clocks_in zones) time ≡ t → is_early counted time ≡ false
+  sought-counts t s time at =
+      less-le (stamp_seconds time.stamp +ℤ whole_days 2) counted
+      (omega (arith, ints, late s.source s.given s.gives s.starts s.meets, at, instant-near zones time))
+    where
+      first : ℤ
+      first = first_met (clocks_in zones) w event -ℤ whole_days 4
+
+      late : (source : StartSource) (given : Rdate) → GivesStart (clocks_in zones) event source given → instant (clocks_in zones) (time_of given) ≡ t
+          → Meets w (entry_from (clocks_in zones) event given) → counted ≤ℤ t
+      late source (At given) g e m = omega (arith, ints, e, met-late given m w.notstarted refl, counts-most w event.start first event.rdates)
+      late (Kept local) (Span start lasts) g e m = let f : Span start lasts ≡ At (time_at event.start local) = g.1 in absurd cc
+      late (Listed place) (Span start lasts) g e m =
+          let each = counts-each w event.start first place event.rdates start lasts g.1 (sym g.2) (met-span start lasts m) in
+          omega (arith, ints, e, each, instant-near zones start)
 
   -- what is sought begins at most four days before what counts first
   pub sought-late : (t : ℤ) → IsSought (clocks_in zones) event w t → (earliest (clocks_in zones) w event (front (clocks_in zones) w event) -ℤ whole_days 4) ≤ℤ t
@@ -164,7 +251,7 @@ module _ (zones : FileZones) (w : Window) (event : Event) where
           omega (arith, ints, e, met-late time m w.notstarted refl, most)
       by (Kept local) (Span start lasts) g e m = let f : Span start lasts ≡ At (time_at event.start local) = g.1 in absurd cc
       by (Listed place) (Span start lasts) g e m =
-          let there = listed-there place (Span start lasts) g m.begun in
+          let there = listed-there place (Span start lasts) g m.begun (sought-counts t s start e) in
           let met = meets-is_met w (entry_from (clocks_in zones) event (Span start lasts)) m in
           let each = earliest-each (clocks_in zones) w event (first_met (clocks_in zones) w event)
           (start_by (clocks_in zones) (Listed place) (Span start lasts)) (front (clocks_in zones) w event) there met in
@@ -263,4 +350,6 @@ module _ (zones : FileZones) (w : Window) (event : Event) where
       (λ e. inl (ap (start_by (clocks_in zones) (Kept local)) g.1 ∙ ap (start_at (clocks_in zones) event) e))
       (λ r. let f : None ≡ Some r.rule = ap (option_map (recurrence_by event.start.stamp)) (sym none) ∙ r.has in absurd cc)
       g.0
-  none-else none (Listed place) given g s = listed-there place given g (sought-early (instant (clocks_in zones) (time_of given)) s)
+  none-else none (Listed place) given g s =
+      listed-there place given g (sought-early (instant (clocks_in zones) (time_of given)) s)
+      (sought-counts (instant (clocks_in zones) (time_of given)) s (time_of given) refl)

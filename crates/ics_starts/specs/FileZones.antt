@@ -1,5 +1,5 @@
 -- The zones by which the times of a file are read, and the times that can be read by them.
-use Rattle.std.specs.Prelude.{◌≤ℤ◌, ◌+ℤ◌, int_le, Bool, List, length, map}
+use Rattle.std.specs.Prelude.{◌≤ℤ◌, ◌+ℤ◌, ℤ, int_le, Bool, ◌||◌, List, length, map}
 use Rattle.ics_event.specs.Event.{EndsBelow, HasZonesBelow, IsEvent, IsTime, TimeBelow, stamp_seconds}
 use Rattle.ics_event.specs.declared.event.Event.{Event}
 use Rattle.ics_event.specs.Event.{Time}
@@ -20,6 +20,14 @@ clocks_in zones = clocks_of (display_clock zones.display.now) (map zone_said zon
 -- the local of a time is two days or more past the window's end; the time is then after that in every zone
 abbrev pub is_past : Window → Time → Bool
 is_past w time = int_le (w.to +ℤ whole_days 2) (stamp_seconds time.stamp)
+
+-- the local of a time is two days or more before an instant; the time is then before that in every zone
+abbrev pub is_early : ℤ → Time → Bool
+is_early t time = int_le (stamp_seconds time.stamp +ℤ whole_days 2) t
+
+-- the local of a time tells that the time is before an instant or past the window's end
+abbrev pub is_outside : Window → ℤ → Time → Bool
+is_outside w from time = is_early from time || is_past w time
 
 -- the zone of an end is one of these
 abbrev pub HasEndIn : List ZoneKind → Length → Type 0

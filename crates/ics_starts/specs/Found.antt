@@ -1,10 +1,12 @@
 -- The starts by which an event can meet a window, as they are found.
-use Rattle.std.specs.Prelude.{◌≡◌, ◌≤ℤ◌, ◌-ℤ◌, ℕ, ◌+◌, ℤ, Bool, true, false, not, List, [], ◌∷◌, length, Option, Some, None, if◌then◌else◌}
+use Rattle.std.specs.Prelude.{◌≡◌, ◌≤ℤ◌, ◌+ℤ◌, ◌-ℤ◌, ℕ, ◌+◌, ◌*◌, ℤ, pos, Bool, true, false, ◌&&◌, not, int_le, List, [], ◌∷◌, length}
+use Rattle.std.specs.Prelude.{Option, Some, None, if◌then◌else◌}
 use Rattle.std.specs.Int.{int_min}
 use Rattle.ics_fields.specs.declared.local.Local.{Local}
-use Rattle.ics_event.specs.Event.{IsRdate, RdateBelow}
+use Rattle.ics_event.specs.Event.{stamp_seconds, IsRdate, Length, RdateBelow}
 use Rattle.ics_event.specs.declared.event.Event.{Event}
 use Rattle.ics_event.specs.Event.{Rdate}
+use Rattle.ics_values.specs.declared.time.Length.TheVariants.{Lasting, Open, Until}
 use Rattle.ics_values.specs.declared.time.Rdate.TheVariants.{At, Span}
 use Rattle.ics_event.specs.Event.{Time}
 use Rattle.ics_listing.specs.declared.start.StartSource.{StartSource}
@@ -23,7 +25,8 @@ use Rattle.ics_starts.specs.Meeting.{entry_from}
 use Rattle.ics_starts.specs.MeetsWindow.{Meets}
 use Rattle.ics_starts.specs.Starts.{given_by, GivesStart}
 use Rattle.ics_listing.specs.StartTimes.{time_at, time_of}
-use Rattle.ics_starts.specs.FileZones.{clocks_in, is_past}
+use Rattle.ics_starts.specs.FileZones.{clocks_in, is_outside}
+use Rattle.ics_fields.specs.Locals.{whole_days}
 use Rattle.ics_listing.specs.StartOrder.{HasStart, moment_cmp}
 
 -- the start that a source gives by a value
@@ -70,13 +73,13 @@ abbrev pub with_front : Bool → Start → List Start → List Start
 with_front true s starts = s ∷ starts
 with_front false s starts = starts
 
--- The starts by the values of RDATEs, which are those from a place on. Those whose local is two days or more past the window's end are
--- left out.
-abbrev pub listed_from : Clocks → Window → Time → ℕ → List Rdate → List Start
-listed_from clocks w first place [] = []
-listed_from clocks w first place (rdate ∷ rdates) =
-    with_front (not (is_past w (time_of (given_by first rdate)))) (start_by clocks (Listed place) (given_by first rdate))
-    (listed_from clocks w first (place + 1) rdates)
+-- The starts by the values of RDATEs, which are those from a place on. Those are left out whose local tells that they are before an instant or
+-- past the window's end.
+abbrev pub listed_from : Clocks → Window → ℤ → Time → ℕ → List Rdate → List Start
+listed_from clocks w from first place [] = []
+listed_from clocks w from first place (rdate ∷ rdates) =
+    with_front (not (is_outside w from (time_of (given_by first rdate)))) (start_by clocks (Listed place) (given_by first rdate))
+    (listed_from clocks w from first (place + 1) rdates)
 
 -- a start by a PERIOD that meets the window by its own length
 abbrev pub is_span_met : Clocks → Window → Event → Start → Rdate → Bool
@@ -96,6 +99,30 @@ earliest_from clocks w event least (s ∷ starts) =
 -- The first instant at which an event of this length can start and meet the window: none before the window does if what has begun is left out.
 abbrev pub first_met : Clocks → Window → Event → ℤ
 first_met clocks w event = if w.notstarted then w.from else w.from -ℤ seconds_lasting clocks event
+
+-- The local at which a PERIOD that begins at a time is to end: that of its end, or the start's and its duration, if each day has 86,400 seconds.
+abbrev pub span_local : Time → Length → ℤ
+span_local start Open = stamp_seconds start.stamp
+span_local start (Until end) = stamp_seconds end.stamp
+span_local start (Lasting duration) = stamp_seconds start.stamp +ℤ pos (duration.days * 86_400 + duration.seconds)
+
+-- The locals of a PERIOD tell that it has ended before the window: by no clocks it ends six days later than they do.
+abbrev pub is_over : Window → Time → Length → Bool
+is_over w start length = int_le (stamp_seconds start.stamp) (w.from -ℤ whole_days 6) && int_le (span_local start length) (w.from -ℤ whole_days 6)
+
+-- the lesser of an instant and one before which a PERIOD does not begin, unless that is over
+abbrev pub counts_with : Window → ℤ → Rdate → ℤ
+counts_with w least (At time) = least
+counts_with w least (Span start length) = if is_over w start length then least else int_min least (stamp_seconds start.stamp -ℤ whole_days 2)
+
+abbrev pub counts_by : Window → Time → ℤ → List Rdate → ℤ
+counts_by w first least [] = least
+counts_by w first least (rdate ∷ rdates) = counts_by w first (counts_with w least (given_by first rdate)) rdates
+
+-- The instant from which on the starts by RDATEs count: four days before the first at which an event of this length can meet the window, since by the clock
+-- it can end as late as if it began so much later, or earlier, where a PERIOD is not over that may begin earlier.
+abbrev pub counts_from : Clocks → Window → Event → ℤ
+counts_from clocks w event = counts_by w event.start (first_met clocks w event -ℤ whole_days 4) event.rdates
 
 -- The instant from which on the rule is read: the first at which an event of this length can meet the window or, if it is earlier, the
 -- earliest start by a PERIOD that meets it, since a local at that instant gives it the event's length.

@@ -22,7 +22,7 @@ use Rattle.ics_listing.specs.FileClocks.{Clocks}
 use Rattle.ics_starts.specs.Clocks.{clock_of, instant, IsBounded}
 use Rattle.ics_listing.specs.Entry.{Entry}
 use Rattle.ics_starts.specs.Exclusions.{is_among, is_excluded}
-use Rattle.ics_starts.specs.Found.{earliest, listed_from, start_at, IsStartIn}
+use Rattle.ics_starts.specs.Found.{counts_from, earliest, listed_from, start_at, IsStartIn}
 use Rattle.ics_listing.specs.StartOrder.{moment_cmp}
 use Rattle.ics_starts.specs.FileZones.{clocks_in}
 use Rattle.ics_starts.specs.Leeway.{late_within, seconds_back}
@@ -84,10 +84,14 @@ AreEnded t old new = ArePassed (IsEarlier t) old new
 abbrev pub AreLeapt : ℤ → ℤ → Option RuleStarts → Option RuleStarts → Type 0
 AreLeapt t u old new = ArePassed (IsAmid t u) old new
 
+-- the starts by RDATEs that count
+abbrev pub listed_of : Clocks → Window → Event → List Start
+listed_of clocks w event = listed_from clocks w (counts_from clocks w event) event.start 0 event.rdates
+
 -- the starts that are known from the beginning: those by RDATEs and, if there is no rule, the one at DTSTART
 abbrev pub listed_apart : Clocks → Window → Event → Option RuleParts → List Start
-listed_apart clocks w event None = start_at clocks event (local_of event.start.stamp) ∷ listed_from clocks w event.start 0 event.rdates
-listed_apart clocks w event (Some parts) = listed_from clocks w event.start 0 event.rdates
+listed_apart clocks w event None = start_at clocks event (local_of event.start.stamp) ∷ listed_of clocks w event
+listed_apart clocks w event (Some parts) = listed_of clocks w event
 
 -- The instant from which on starts are needed. None is at the window's end or later, so that two weeks past it will do for all later instants.
 abbrev pub first_asked : Clocks → Window → Event → ℤ → List Start → ℤ

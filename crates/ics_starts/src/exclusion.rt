@@ -1,14 +1,14 @@
 //! The starts that the EXDATEs of an event remove.
-ghost use Rattle.std.specs.Prelude.{◌≡◌, ◌<ℤ◌, ◌≤ℤ◌, ◌+ℤ◌, ◌||◌, ℤ, not, IfOk};
+ghost use Rattle.std.specs.Prelude.{◌≡◌, ◌<ℤ◌, ◌≤ℤ◌, ◌+ℤ◌, ◌||◌, ℤ, not, true, IfOk};
 ghost use Rattle.std.specs.List.Sorted.{IsSorted};
 ghost use Rattle.std.specs.Ordering.{int_cmp};
 ghost use Rattle.ics_starts.specs.Clocks.{clock_of, instant};
-ghost use Rattle.ics_starts.specs.Exclusions.{excludes, is_among, shown_day, takes_out, with_instant};
-ghost use Rattle.ics_starts.specs.FileZones.{clocks_in, is_past, IsTimeOf};
+ghost use Rattle.ics_starts.specs.Exclusions.{excludes, is_among, is_excluded, shown_day, takes_out, with_instant};
+ghost use Rattle.ics_starts.specs.FileZones.{clocks_in, is_outside, IsOwnEvent, IsTimeOf};
 ghost use Rattle.ics_fields.specs.Locals.{day_of_local};
 ghost use Rattle.ics_listing.specs.WindowBounds.{window_last, occurrence_first};
 
-use crate::instants::{instant, is_past};
+use crate::instants::{instant, is_at, is_outside};
 use crate::zones::FileZones;
 use ics_event::{Event, Time};
 use ics_listing::{Window, date_of};
@@ -19,10 +19,11 @@ use std::alloc::{AllocError, Global};
 /// How many removed days are passed over at a time, at most.
 const RUN_DAYS: i32 = 64;
 
-/// The instants that the EXDATEs of an event remove and, if the event has date-times, the days that
+/// The instants that the EXDATEs of an event remove, from one on, and, if the event has date-times, the days that
 /// they remove by the clock of DTSTART. Both are in order.
 #[derive(Drop)]
 pub(crate) struct Exclusions {
+    pub(crate) from: Moment,
     instants: Vec<Moment>,
     days: Vec<i32>,
     ghost instants_rise: { IsSorted int_cmp instants.items },
@@ -30,24 +31,23 @@ pub(crate) struct Exclusions {
 }
 
 impl Exclusions {
-    ghost use Rattle.std.specs.Prelude.{true};
     ghost use Rattle.jiff_core.specs.Calendar.{IsBetween, IsWithin};
     ghost use Rattle.ics_fields.specs.Locals.{year_seconds};
     ghost use Rattle.ics_listing.specs.FileClocks.{Clock};
     ghost use Rattle.ics_starts.specs.Clocks.{IsBounded, IsStretched};
     ghost use Rattle.ics_starts.specs.Exclusions.{is_day_in, AreExclusions};
-    ghost use Rattle.ics_starts.specs.FileZones.{IsOwnEvent};
 
-    /// What the EXDATEs remove from the starts before the window's end.
+    /// What the EXDATEs remove from the starts from an instant on and before the window's end.
     pub(crate) fn new(
         alloc: Global,
         zones: FileZones<'_>,
         event: &Event,
         window: &Window,
+        from: Moment,
     ) -> Result<Exclusions, AllocError>
         requires { IsOwnEvent zones event.now }
         ensures { IfOk result (λ exclusions. AreExclusions (clocks_in zones.entry) event.now window.now
-            exclusions.instants.items exclusions.days.items) }
+            exclusions.from exclusions.instants.items exclusions.days.items) }
     {
         let mut instants = Vec::new(alloc);
         let mut days = Vec::new(alloc);
@@ -59,11 +59,16 @@ impl Exclusions {
                 event.start,
                 *exdate,
                 window,
+                from,
             )?;
         }
         instants.sort_unstable();
         days.sort_unstable();
-        Ok(Exclusions { instants, days })
+        Ok(Exclusions {
+            from,
+            instants,
+            days,
+        })
     }
 
     /// Whether a start at an instant is removed.
@@ -170,35 +175,70 @@ fn push_exdate(
     first: Time,
     exdate: Time,
     window: &Window,
+    from: Moment,
 ) -> Result<(), AllocError>
     requires { IsTimeOf zones.zones.now exdate }
-    ensures { IfOk result (λ _. (t : ℤ) → t <ℤ window.now.to → let clocks = clocks_in zones.entry in
+    ensures only { IfOk result (λ _. (t : ℤ) → let clocks = clocks_in zones.entry in
+        takes_out (clock_of clocks first) instants.new.items days.new.items t ≡ true
+        → (takes_out (clock_of clocks first) instants.old.items days.old.items t || excludes clocks first exdate t) ≡ true) }
+    ensures same { IfOk result (λ _. (t : ℤ) → from ≤ℤ t → t <ℤ window.now.to → let clocks = clocks_in zones.entry in
         takes_out (clock_of clocks first) instants.new.items days.new.items t
         ≡ (takes_out (clock_of clocks first) instants.old.items days.old.items t || excludes clocks first exdate t)) }
 {
     match (first.stamp, exdate.stamp) {
-        (Stamp::Date(_), _) => push_instant(instants, zones, date_of(exdate), window)?,
+        (Stamp::Date(_), _) => push_instant(instants, zones, date_of(exdate), window, from)?,
         (_, Stamp::Date(day)) => days.push(day)?,
-        _ => push_instant(instants, zones, exdate, window)?,
+        _ => push_instant(instants, zones, exdate, window, from)?,
     }
     Ok(())
 }
 
-/// Adds the instant of a time, unless its local is two days or more past the window's end.
+/// Adds the instant of a time, unless its local tells that it is before another, or past the window's end.
 fn push_instant(
     instants: &mut Vec<Moment>,
     zones: FileZones<'_>,
     time: Time,
     window: &Window,
+    from: Moment,
 ) -> Result<(), AllocError>
     requires { IsTimeOf zones.zones.now time }
     ensures { IfOk result (λ _. instants.new.items
-        ≡ with_instant (not (is_past window.now time)) instants.old.items (instant (clocks_in zones.entry) time)) }
+        ≡ with_instant (not (is_outside window.now from time)) instants.old.items (instant (clocks_in zones.entry) time)) }
 {
-    if !is_past(time, window) {
+    if !is_outside(time, window, from) {
         instants.push(instant(zones, time))?;
     }
     Ok(())
+}
+
+/// Whether an EXDATE of an event removes a start at an instant. Each is looked at.
+pub(crate) fn is_excluded(zones: FileZones<'_>, event: &Event, moment: Moment) -> bool
+    requires event { IsOwnEvent zones event.now }
+    requires late { occurrence_first ≤ℤ moment }
+    requires early { moment <ℤ window_last }
+    ensures { result ≡ is_excluded (clocks_in zones.entry) event.now moment }
+{
+    for exdate in &event.exdates {
+        if excludes(zones, event.start, *exdate, moment) {
+            return true;
+        }
+    }
+    false
+}
+
+/// Whether an EXDATE removes a start at an instant from an event with this DTSTART.
+fn excludes(zones: FileZones<'_>, first: Time, exdate: Time, moment: Moment) -> bool
+    requires first { IsTimeOf zones.zones.now first }
+    requires exdate { IsTimeOf zones.zones.now exdate }
+    requires late { occurrence_first ≤ℤ moment }
+    requires early { moment <ℤ window_last }
+    ensures { result ≡ excludes (clocks_in zones.entry) first exdate moment }
+{
+    match (first.stamp, exdate.stamp) {
+        (Stamp::Date(_), _) => is_at(zones, date_of(exdate), moment),
+        (_, Stamp::Date(day)) => day == shown_day(zones, first, moment),
+        _ => is_at(zones, exdate, moment),
+    }
 }
 
 /// The day that a time's clock shows at an instant.

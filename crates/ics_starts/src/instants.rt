@@ -1,9 +1,11 @@
 //! The instants of times.
-ghost use Rattle.std.specs.Prelude.{◌≡◌, ◌≤ℤ◌, ◌-ℤ◌, pos, IfSome};
+ghost use Rattle.std.specs.Prelude.{◌≡◌, ◌<ℤ◌, ◌≤ℤ◌, ◌-ℤ◌, pos, IfSome};
+ghost use Rattle.std.specs.Ordering.{int_eq};
 ghost use Rattle.ics_zone.specs.Seconds.{IsMoment};
 ghost use Rattle.ics_starts.specs.Clocks.{clock_of, instant, is_in, AreSpansOf, IsBounded, IsStretched};
 ghost use Rattle.ics_listing.specs.FileClocks.{Clock};
-ghost use Rattle.ics_starts.specs.FileZones.{clocks_in, is_past, IsTimeOf};
+ghost use Rattle.ics_starts.specs.FileZones.{clocks_in, is_early, is_outside, is_past, IsTimeOf};
+ghost use Rattle.ics_listing.specs.WindowBounds.{occurrence_first, window_last};
 ghost use Rattle.ics_starts.specs.Leeway.{seconds_off};
 
 use crate::zones::FileZones;
@@ -14,6 +16,9 @@ use ics_zone::{Bounds, Place, Spans, Stretch};
 
 /// A stretch that reaches so many seconds past a local is far.
 const FAR: i64 = 3_600;
+
+/// A time whose local is so many seconds or more before or past an instant is before or past it in every zone.
+pub(crate) const TWO_DAYS: i64 = 2 * 86_400;
 
 /// The instant of a time. A date, as its midnight, and a floating local are read in the display zone, a
 /// zoned local in its own zone (RFC 5545, section 3.3.5). The time is in the years of stamps, and has no
@@ -185,8 +190,36 @@ pub(crate) fn instant_in(zones: FileZones<'_>, stretch: Stretch, time: Time) -> 
 
 /// Whether the local of a time is two days or more past the window's end. If so, the time is after that
 /// in every zone.
-pub(crate) fn is_past(time: Time, window: &Window) -> bool
+fn is_past(time: Time, window: &Window) -> bool
     ensures { result ≡ is_past window.now time }
 {
-    window.to + 2 * 86_400 <= local_of(time.stamp).seconds()
+    window.to + TWO_DAYS <= local_of(time.stamp).seconds()
+}
+
+/// Whether the local of a time is two days or more before an instant. If so, the time is before that in every zone.
+pub(crate) fn is_early(time: Time, from: Moment) -> bool
+    ensures { result ≡ is_early from time }
+{
+    local_of(time.stamp).seconds() + TWO_DAYS <= from
+}
+
+/// Whether the local of a time tells that the time is before an instant or past the window's end.
+pub(crate) fn is_outside(time: Time, window: &Window, from: Moment) -> bool
+    ensures { result ≡ is_outside window.now from time }
+{
+    is_early(time, from) || is_past(time, window)
+}
+
+/// Whether a time means an instant. No zone is asked, if its local is two days or more away.
+pub(crate) fn is_at(zones: FileZones<'_>, time: Time, moment: Moment) -> bool
+    requires time { IsTimeOf zones.zones.now time }
+    requires late { occurrence_first ≤ℤ moment }
+    requires early { moment <ℤ window_last }
+    ensures { result ≡ int_eq (instant (clocks_in zones.entry) time) moment }
+{
+    let local = local_of(time.stamp).seconds();
+    if local <= moment - TWO_DAYS || moment + TWO_DAYS <= local {
+        return false;
+    }
+    instant(zones, time) == moment
 }

@@ -4,11 +4,11 @@ ghost use Rattle.ics_event.specs.Event.{IsLasting};
 ghost use Rattle.ics_fields.specs.Locals.{number, year_seconds};
 ghost use Rattle.ics_listing.specs.Entry.{entry_cmp};
 ghost use Rattle.ics_starts.specs.EventLaws.{own-event-prop};
-ghost use Rattle.ics_starts.specs.Exclusions.{AreExclusions};
+ghost use Rattle.ics_starts.specs.Exclusions.{is_excluded, AreExclusions};
 ghost use Rattle.ics_listing.specs.StartOrder.{moment_cmp};
 ghost use Rattle.ics_starts.specs.Clocks.{clock_of, AreSpansOf, IsStretched};
 ghost use Rattle.ics_starts.specs.Finish.{AreLasting};
-ghost use Rattle.ics_starts.specs.Found.{IsStartIn};
+ghost use Rattle.ics_starts.specs.Found.{first_met, IsStartIn};
 ghost use Rattle.ics_listing.specs.FileClocks.{Clock};
 ghost use Rattle.ics_listing.specs.Listing.{IsIn};
 ghost use Rattle.ics_starts.specs.RuleMarks.{IsBegun, IsMarkOf};
@@ -22,19 +22,22 @@ ghost use Rattle.ics_starts.specs.SeriesStarts.{AreEnded, AreLeapt, AreSkipped, 
 ghost use Rattle.ics_starts.specs.SeriesStarts.{IsFirstGiven, IsFirstOf, IsReady, IsRuleFrom};
 ghost use Rattle.ics_listing.specs.KnownStarts.{listed_left};
 ghost use Rattle.ics_starts.specs.FileZones.{clocks_in, IsOwnEvent};
+ghost use Rattle.ics_listing.specs.WindowBounds.{lasts_most, occurrence_first};
 ghost use Rattle.ics_listing.specs.declared.start.Start.{Start};
 
 use crate::ends::Ends;
-use crate::exclusion::Exclusions;
+use crate::exclusion::{Exclusions, is_excluded};
 use crate::instants::{bounds, no_stretch};
 use crate::kind::kind_of;
 use crate::lasting::lasting_by;
-use crate::listed::{listed_again, push_listed};
+use crate::listed::{counts_from, listed_again, push_listed};
 use crate::mark::{Mark, counted};
 use crate::occurrence::met_by;
 use crate::replaced::Replaced;
 use crate::rule_starts::RuleStarts;
-use crate::starts::{earliest, first_given, first_nearby, seconds_back, start_at};
+use crate::starts::{
+    FOUR_DAYS, earliest, first_given, first_met, first_nearby, seconds_back, start_at,
+};
 use crate::zones::FileZones;
 use ics_event::Event;
 use ics_listing::{Begins, Coming, Feed, ListedStarts, Occurrence, Start, Window, local_of};
@@ -61,8 +64,8 @@ pub struct Series<'a> {
     ghost first_is: { IfSome first (IsFirstGiven (clocks_in zones) window event.now since) } by { first-given-prop (clocks_in zones) window event.now since
         first },
     ghost own: { IsOwnEvent zones event.now } by { own-event-prop zones event.now },
-    ghost taken_out: { AreExclusions (clocks_in zones) event.now window exclusions.instants.items exclusions.days.items } by { taken-out-prop (clocks_in zones)
-        event.now window exclusions.instants.items exclusions.days.items },
+    ghost taken_out: { AreExclusions (clocks_in zones) event.now window exclusions.from exclusions.instants.items exclusions.days.items } by { taken-out-prop
+        (clocks_in zones) event.now window exclusions.from exclusions.instants.items exclusions.days.items },
     ghost ends_are: { AreSpansOf (clock_of (clocks_in zones) event.now.start) ends.spans },
     ghost known: { AreStartsIn zones (left rule_starts listed) } by { starts-in-prop zones (left rule_starts listed) },
     // A start that the rule hides may come to light.
@@ -85,15 +88,24 @@ fn listed_apart(
     zones: FileZones<'_>,
     event: &Event,
     window: &Window,
+    met: Moment,
 ) -> Result<Vec<Start>, AllocError>
-    requires { IsOwnEvent zones event.now }
+    requires event { IsOwnEvent zones event.now }
+    requires met { met ≡ first_met (clocks_in zones) window.now event.now }
+    requires late { (occurrence_first -ℤ lasts_most) ≤ℤ met }
     ensures { IfOk result (λ starts. starts.items ≡ listed_apart (clocks_in zones.entry) window.now event.now event.now.rule) }
 {
     let mut starts = Vec::new(alloc);
     if event.rule.is_none() {
         starts.push(start_at(zones, event, local_of(event.start.stamp)))?;
     }
-    push_listed(&mut starts, zones, event, window)?;
+    push_listed(
+        &mut starts,
+        zones,
+        event,
+        window,
+        counts_from(event, window, met),
+    )?;
     Ok(starts)
 }
 
@@ -105,10 +117,14 @@ fn starts_by_rule<'a>(
     event: &'a Event,
     window: Window,
     since: Moment,
+    met: Moment,
     listed: &[Start],
     mark: Option<Mark>,
 ) -> Option<RuleStarts<'a>>
     requires event { IsOwnEvent zones event.now }
+    requires met { met ≡ first_met (clocks_in zones) window event.now }
+    requires late { (occurrence_first -ℤ lasts_most) ≤ℤ met }
+    requires early { met ≤ℤ window.from }
     requires listed { All (IsStartIn zones) listed.now }
     requires mark { IsMarkOf event.now mark }
     ensures own { HasOwnRule zones.entry event.entry.now window (first_asked (clocks_in zones.entry) window event.entry.now since listed.entry.now) result }
@@ -120,7 +136,7 @@ fn starts_by_rule<'a>(
     let first = local_of(event.start.stamp);
     let rule = Rule::new(parts, first, kind_of(event.start.stamp));
     let bounds = bounds(zones, event.start);
-    let earliest = earliest(zones, event, &window, listed);
+    let earliest = earliest(zones, event, &window, met, listed);
     // All instants this late after the window's end are treated as one: no day is read for them.
     let late = window.to + 14 * 86_400;
     // A search under COUNT goes on from the midnight where another began.
@@ -304,9 +320,10 @@ impl<'a> Series<'a> {
         ensures sources { IfOk result (λ series. series_sources series ≡ source_of (clocks_in zones.entry) event.entry.now window since) }
         ensures begun { IfOk result (λ series. MatchOption series.rule_starts (Unit {0}) (λ s. IsBegun s.rule s.from s.cursor)) }
     {
-        let exclusions = Exclusions::new(alloc, zones, event, &window)?;
-        let listed = listed_apart(alloc, zones, event, &window)?;
-        let rule_starts = starts_by_rule(alloc, zones, event, window, since, &listed, mark);
+        let met = first_met(zones, event, &window);
+        let exclusions = Exclusions::new(alloc, zones, event, &window, met - FOUR_DAYS)?;
+        let listed = listed_apart(alloc, zones, event, &window, met)?;
+        let rule_starts = starts_by_rule(alloc, zones, event, window, since, met, &listed, mark);
         Ok(Series {
             zones,
             event,
@@ -534,6 +551,20 @@ impl<'a> Series<'a> {
         }
     }
 
+    /// Whether an EXDATE removes a start at an instant. Where this is not known, a PERIOD that began long ago meets the window.
+    fn is_removed(&self, moment: Moment) -> bool
+        requires late { occurrence_first ≤ℤ moment }
+        requires early { moment <ℤ self.now.window.to }
+        ensures { result ≡ is_excluded (clocks_in self.now.zones) self.now.event.now moment }
+    {
+        let (zones, event) = (self.zones, self.event);
+        if moment < self.exclusions.from {
+            is_excluded(zones, event, moment)
+        } else {
+            self.exclusions.has(zones, event.start, moment)
+        }
+    }
+
     /// The occurrence with a start, if it belongs to the list.
     fn wanted(&self, start: Start) -> Option<Occurrence<'a>>
         requires { IsStartIn self.now.zones start }
@@ -548,7 +579,7 @@ impl<'a> Series<'a> {
         }
         let (zones, event) = (self.zones, self.event);
         let occurrence = met_by(zones, event, start, &self.window)?;
-        if self.exclusions.has(zones, event.start, occurrence.start) {
+        if self.is_removed(occurrence.start) {
             None
         } else {
             Some(occurrence)

@@ -23,7 +23,7 @@ use ics_listing::{Start, StartSource, Window, local_of, time_at};
 use ics_values::{Local, Moment, Stamp};
 use ics_zone::Bounds;
 
-const FOUR_DAYS: i64 = 4 * 86_400;
+pub(crate) const FOUR_DAYS: i64 = 4 * 86_400;
 
 /// The start at the local of DTSTART, or at one that the rule keeps.
 pub(crate) fn start_at(zones: FileZones<'_>, event: &Event, local: Local) -> Start
@@ -39,7 +39,7 @@ pub(crate) fn start_at(zones: FileZones<'_>, event: &Event, local: Local) -> Sta
 }
 
 /// The first instant at which an event of this length can start and meet the window.
-fn first_met(zones: FileZones<'_>, event: &Event, window: &Window) -> Moment
+pub(crate) fn first_met(zones: FileZones<'_>, event: &Event, window: &Window) -> Moment
     requires { IsOwnEvent zones event.now }
     ensures value { result ≡ first_met (clocks_in zones.entry) window.now event.now }
     ensures late { (occurrence_first -ℤ lasts_most) ≤ℤ result }
@@ -52,22 +52,26 @@ fn first_met(zones: FileZones<'_>, event: &Event, window: &Window) -> Moment
     }
 }
 
-/// The instant from which on the rule is read: the first at which an event of this length can still
+/// The instant from which on the rule is read: the first, which is given, at which an event of this length can still
 /// meet the window or, if it is earlier, the earliest start by a PERIOD that meets it, since a local at
 /// that instant gives it the event's length.
 pub(crate) fn earliest(
     zones: FileZones<'_>,
     event: &Event,
     window: &Window,
+    met: Moment,
     starts: &[Start],
 ) -> Moment
     requires event { IsOwnEvent zones event.now }
+    requires met { met ≡ first_met (clocks_in zones) window.now event.now }
+    requires late { (occurrence_first -ℤ lasts_most) ≤ℤ met }
+    requires early { met ≤ℤ window.now.from }
     requires starts { All (IsStartIn zones) starts.now }
     ensures value { result ≡ earliest (clocks_in zones.entry) window.now event.now starts.now }
     ensures late { (occurrence_first -ℤ lasts_most) ≤ℤ result }
     ensures early { result ≤ℤ window.now.to }
 {
-    let mut earliest = first_met(zones, event, window);
+    let mut earliest = met;
     for start in starts {
         if is_span_met(zones, event, *start, window) {
             earliest = earliest.min(start.moment);

@@ -1,33 +1,32 @@
-use Rattle.std.proofs.Common.{◌≡◌, ◌≤◌, inl, inr, Some, List, length, get_or, refl, sym, ◌∙◌, ap, subst, arith, slice_get, rules, w64, SFits}
+use Rattle.std.proofs.Common.{◌≡◌, ◌≤◌, inl, inr, Some, List, length, get_or, refl, sym, ◌∙◌, ap, subst, arith, slice_get, rules, w64, to_z, of_z, SFits}
 use Rattle.std.proofs.lemmas.Bool.{cases_lt}
 use Rattle.std.proofs.lemmas.Int.{ints}
 use Rattle.std.proofs.lemmas.Option.{get_or_from_slice_get, slice_get_read, slice_get_within}
 use Rattle.ics_event.specs.declared.event.Event.{Event}
 use Rattle.ics_event.specs.Event.{Rdate}
 use Rattle.ics_listing.specs.declared.start.StartSource.TheVariants.{Listed}
-use Rattle.ics_starts.specs.Clocks.{instant}
+use Rattle.ics_starts.specs.Quiet.{IsAgain}
 use Rattle.ics_starts.specs.FileZones.{clocks_in, IsTimeOf}
 use Rattle.ics_starts.specs.Starts.{given_by}
 use Rattle.ics_listing.specs.StartTimes.{time_of}
 use Rattle.ics_starts.proofs.ZoneLemmas.{given-time}
 use Rattle.ics_starts.proofs.listed.listed_again.Goals as goal
 
-pub instant-requires : goal.instant-requires
-instant-requires c = subst (λ (v : Event). IsTimeOf c.args.zones.zones.now v.start) (sym c.event.view_is) c.requires.start
+pub lesser_again-least-requires : goal.lesser_again-least-requires
+lesser_again-least-requires c = subst (λ (v : Event). IsTimeOf c.args.zones.zones.now v.start) (sym c.event.view_is) c.requires.start
 
 pub loop-rdate-init : goal.loop-rdate-init
 loop-rdate-init c =
-    let fits : SFits w64 c.instant.result = search rules in
-    let least : SFits w64 c.lesser_past-least.result = search rules in
-    let same : c.instant.result ≡ instant (clocks_in c.args.zones) c.args.event.now.start = c.instant.ensures
-    ∙ ap (λ (v : Event). instant (clocks_in c.args.zones) v.start) c.event.view_is in
+    let least : SFits w64 c.lesser_again-least.result = search rules in
+    let again = subst (λ (v : Event). IsAgain (clocks_in c.args.zones) (to_z w64 (of_z w64 c.args.from)) c.lesser_again-least.result v.start) c.event.view_is
+    c.lesser_again-least.ensures.second in
     record {
-      start = λ late. let now = c.lesser_past-least.ensures.second (omega (arith, ints, late, same)) in omega (arith, ints, now, same);
+      start = λ late. let now = again (omega (arith, ints, late, c.ranges.from)) in omega (arith, ints, now);
       each = λ k rdate l stands. absurd (omega (arith, l));
     }
 
-pub instant-requires-in-loop-rdate : goal.instant-requires-in-loop-rdate
-instant-requires-in-loop-rdate c =
+pub lesser_again-least-requires-in-loop-rdate : goal.lesser_again-least-requires-in-loop-rdate
+lesser_again-least-requires-in-loop-rdate c =
     let event = c.args.event.now in
     let r = c.rdate-item.result in
     let items : c.deref-rdate-items.result.now ≡ event.rdates = c.deref-rdate-items.ensures.value ∙ ap (λ (v : Event). v.rdates) c.event.view_is in
@@ -44,13 +43,11 @@ loop-rdate-preserved c =
     let event = c.args.event.now in
     let clocks = clocks_in c.args.zones in
     let r = c.rdate-item.result in
-    let fits : SFits w64 c.instant-in-loop-rdate.result = search rules in
-    let least : SFits w64 c.lesser_past-least-in-loop-rdate.result = search rules in
+    let least : SFits w64 c.lesser_again-least-in-loop-rdate.result = search rules in
     let items : c.deref-rdate-items.result.now ≡ event.rdates = c.deref-rdate-items.ensures.value ∙ ap (λ (v : Event). v.rdates) c.event.view_is in
     let given : c.given_by-given.result ≡ given_by event.start r = c.given_by-given.ensures ∙ ap (λ (v : Event). given_by v.start r) c.event.view_is in
-    let same : c.instant-in-loop-rdate.result ≡ instant clocks (time_of (given_by event.start r)) = c.instant-in-loop-rdate.ensures
-    ∙ ap (instant clocks) (c.time_of.ensures ∙ ap time_of given) in
-    let first = c.lesser_past-least-in-loop-rdate.ensures.first in
+    let same : c.time_of.result ≡ time_of (given_by event.start r) = c.time_of.ensures ∙ ap time_of given in
+    let first = c.lesser_again-least-in-loop-rdate.ensures.first in
     record {
       start = λ late. let was = c.loop-rdate.invariant.start late in omega (arith, ints, was, first);
       each = λ k rdate l stands late. elim (cases_lt k c.loop-rdate.rdate-index) [
@@ -59,10 +56,11 @@ loop-rdate-preserved c =
             let place : c.loop-rdate.rdate-index ≡ k = omega (arith, on, l) in
             let is : r ≡ rdate = c.rdate-item.is ∙ (ap (λ (xs : List Rdate). get_or xs c.loop-rdate.rdate-index r) items
             ∙ (ap (λ n. get_or event.rdates n r) place ∙ get_or_from_slice_get event.rdates k rdate r stands)) in
-            let at : c.instant-in-loop-rdate.result ≡ instant clocks (time_of (given_by event.start rdate)) =
-            same ∙ ap (λ (d : Rdate). instant clocks (time_of (given_by event.start d))) is in
-            let now = c.lesser_past-least-in-loop-rdate.ensures.second (omega (arith, ints, late, at)) in
-            omega (arith, ints, now, at)
+            let at : c.time_of.result ≡ time_of (given_by event.start rdate) = same ∙ ap (λ (d : Rdate). time_of (given_by event.start d)) is in
+            let again = subst (IsAgain clocks (to_z w64 (of_z w64 c.args.from)) c.lesser_again-least-in-loop-rdate.result) at
+            c.lesser_again-least-in-loop-rdate.ensures.second in
+            let now = again (omega (arith, ints, late, c.ranges.from)) in
+            omega (arith, ints, now)
       ];
     }
 

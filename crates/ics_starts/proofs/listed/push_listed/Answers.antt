@@ -23,8 +23,8 @@ instant-requires c =
     subst (IsTimeOf c.args.zones.zones.now) (sym (c.time_of-in-loop-place.ensures ∙ ap time_of given))
     (given-time c.args.zones event (Listed c.loop-place.place) (given_by event.start r) c.requires (r, there, refl))
 
-pub loop-place-preserved-then-is_past : goal.loop-place-preserved-then-is_past
-loop-place-preserved-then-is_past c = grind (arith, ints, common_steps)
+pub loop-place-preserved-then-is_outside : goal.loop-place-preserved-then-is_outside
+loop-place-preserved-then-is_outside c = grind (arith, ints, common_steps)
 
 pub loop-place-preserved : goal.loop-place-preserved
 loop-place-preserved c = grind (arith, ints, common_steps)

@@ -37,6 +37,9 @@ module _ (own first late least : ℤ) where
       → pos b ≡ from +ℤ pos 62_167_219_200 → a ≤ n → n < b → moment ≤ℤ (pos n -ℤ pos 62_167_219_200 -ℤ least) → moment <ℤ (first -ℤ late)
   low-by low at there on before near = omega (arith, ints, low, at, there, on, before, near, int_max_is own (first -ℤ (late -ℤ least)))
 
+less-by : {moment first late : ℤ} → moment <ℤ (first -ℤ late) → pos 0 ≤ℤ late → moment <ℤ first
+less-by l h = omega (arith, ints, l, h)
+
 -- a mark of the event's rule is one under COUNT, where there is one
 marked : (event : Event) {rule : Recurrence} {counts : Bool} (given mark : Option Mark) → recurrence_of event ≡ Some rule → IsMarkOf event given
     → is_some rule.parts.count ≡ counts → MatchOption mark (Unit {0}) (λ m. (given ≡ Some m) × (counts ≡ true))
@@ -122,7 +125,7 @@ returns c =
         window_is = c.new.ensures.window;
         day = rw c.new.ensures.from c.first_nearby-from.ensures.day;
         late = rw c.new.ensures.from late;
-        low = rw c.new.ensures.from (λ n on before. let less = low n on before in omega (arith, ints, less, ends.0));
+        low = rw c.new.ensures.from (λ n on before. less-by (low n on before) ends.0);
       };
       from = record {
         rule = c.new-rule.result;

@@ -17,12 +17,12 @@ loop-start-init c =
     let clocks = clocks_in c.args.zones in
     let event = c.args.event.now in
     let w = c.args.window.now in
-    let met = c.first_met-earliest in
-    let fits = moment-back met.result met.type_inv in
+    let met = c.requires in
+    let fits = moment-back c.args.met c.ranges.met.sfits in
     record {
-      rest = ap (λ t. earliest_from clocks w event t c.args.starts.now) (fits ∙ met.ensures.value);
-      late = omega (arith, ints, fits, met.ensures.late);
-      early = omega (arith, ints, fits, met.ensures.early, w.ordered);
+      rest = ap (λ t. earliest_from clocks w event t c.args.starts.now) (fits ∙ met.met);
+      late = omega (arith, ints, fits, met.late);
+      early = omega (arith, ints, fits, met.early, w.ordered);
     }
 
 pub loop-start-preserved : goal.loop-start-preserved

@@ -1,4 +1,4 @@
-use Rattle.std.proofs.Common.{◌≡◌, ℤ, ◌<ℤ◌, take}
+use Rattle.std.proofs.Common.{◌≡◌, ℤ, ◌<ℤ◌, ◌≤ℤ◌, take, true}
 use Rattle.std.specs.List.{list_any}
 use Rattle.ics_starts.specs.Clocks.{clock_of}
 use Rattle.ics_starts.specs.Exclusions.{excludes, takes_out}
@@ -7,6 +7,11 @@ use Rattle.ics_starts.proofs.exclusion.Exclusions.new.Given as goal
 
 -- what the EXDATEs before this one take out is taken out
 abbrev pub invariant-loop-exdate : goal.invariant-loop-exdate
-invariant-loop-exdate l =
-    (t : ℤ) → t <ℤ l.window.to → takes_out (clock_of (clocks_in l.zones) l.event.start) l.instants.items l.days.items t
-    ≡ list_any (λ exdate. excludes (clocks_in l.zones) l.event.start exdate t) (take l.exdate-index l.event.exdates)
+invariant-loop-exdate l = record {
+  only :
+      (t : ℤ) → takes_out (clock_of (clocks_in l.zones) l.event.start) l.instants.items l.days.items t ≡ true
+      → list_any (λ exdate. excludes (clocks_in l.zones) l.event.start exdate t) (take l.exdate-index l.event.exdates) ≡ true;
+  same :
+      (t : ℤ) → l.from ≤ℤ t → t <ℤ l.window.to → takes_out (clock_of (clocks_in l.zones) l.event.start) l.instants.items l.days.items t
+      ≡ list_any (λ exdate. excludes (clocks_in l.zones) l.event.start exdate t) (take l.exdate-index l.event.exdates);
+}

@@ -21,7 +21,7 @@ use Rattle.ics_starts.specs.declared.zones.FileZones.{FileZones}
 use Rattle.ics_listing.specs.FileClocks.{Clocks}
 use Rattle.ics_starts.specs.Clocks.{clock_of, instant}
 use Rattle.ics_listing.specs.Entry.{Entry, entry_cmp}
-use Rattle.ics_starts.specs.Found.{listed_from, start_at, start_by, AreStartsSince, IsSought, IsStart, IsStartIn}
+use Rattle.ics_starts.specs.Found.{counts_from, start_at, start_by, AreStartsSince, IsSought, IsStart, IsStartIn}
 use Rattle.ics_listing.specs.StartOrder.{moment_cmp, AreFirsts, HasStart}
 use Rattle.ics_listing.specs.Listing.{IsIn, IsListing}
 use Rattle.ics_starts.specs.Meeting.{entry_from}
@@ -31,7 +31,7 @@ use Rattle.ics_listing.specs.Inner.MergedLaws.{rises-union}
 use Rattle.ics_listing.specs.Rising.{Rises}
 use Rattle.ics_starts.specs.RuleFeed.{starts_left}
 use Rattle.ics_starts.specs.RuleStarts.{found, found_in, gives, lets_until, local_numbered, moment_numbered}
-use Rattle.ics_starts.specs.SeriesStarts.{first_asked, listed_apart, rule_left, HasOwnRule, HasRuled, IsRuleFrom, IsSeriesMet, given_of, left}
+use Rattle.ics_starts.specs.SeriesStarts.{first_asked, listed_apart, listed_of, rule_left, HasOwnRule, HasRuled, IsRuleFrom, IsSeriesMet, given_of, left}
 use Rattle.ics_listing.specs.KnownStarts.{listed_left}
 use Rattle.ics_listing.specs.StartTimes.{local_of, time_at, time_of}
 use Rattle.ics_starts.specs.Starts.{recurrence_by, GivesStart, IsRuleStart}
@@ -41,7 +41,7 @@ use Rattle.ics_listing.proofs.StartOrderLemmas.{calendar-day, own-day, number-se
 use Rattle.ics_starts.proofs.StartSourceLemmas.{gives-below, gives-kept, gives-value, kept-calendar, kept-ruled, number-numbered, numbered-number, ruled-kept}
 use Rattle.ics_starts.proofs.InstantLemmas.{instant-near}
 use Rattle.ics_starts.proofs.SeriesLemmas.{has-union, put-has, union-has, in-moment, rises-rule, series-listing}
-use Rattle.ics_starts.proofs.SoughtLemmas.{listed-in, late-event, listed-there, none-else, sought-early, sought-from}
+use Rattle.ics_starts.proofs.SoughtLemmas.{listed-in, late-event, listed-there, none-else, sought-counts, sought-early, sought-from}
 use Rattle.ics_starts.proofs.EntryLemmas.{same-entry}
 use Rattle.ics_starts.proofs.RuleDayLemmas.{found-is, given-parts, in-rules, put-both, seconds-numbered}
 use Rattle.ics_starts.proofs.RawLemmas.{kept-first}
@@ -62,9 +62,9 @@ module _ (zones : FileZones) (w : Window) (event : Event) where
   clocks = clocks_in zones
 
   -- What is known from the first.
-  start-listed : (s : Start) → IsIn s (listed_from clocks w event.start 0 event.rdates) → IsStart clocks event s
+  start-listed : (s : Start) → IsIn s (listed_of clocks w event) → IsStart clocks event s
   start-listed s m =
-      let k = listed-in clocks w event.start 0 event.rdates s m in
+      let k = listed-in clocks w (counts_from clocks w event) event.start 0 event.rdates s m in
       rw k.is (record { gives = (k.rdate, subst (λ i. slice_get event.rdates i ≡ Some k.rdate) (omega arith) k.stands, refl); moment = refl })
 
   start-apart : (o : Option RuleParts) (s : Start) → IsIn s (listed_apart clocks w event o) → IsStart clocks event s
@@ -124,7 +124,7 @@ module _ (zones : FileZones) (w : Window) (event : Event) where
 
   module _ (sound : IsEvent event) (since : ℤ) where
     abbrev by_rdates : List Start
-    by_rdates = listed_from clocks w event.start 0 event.rdates
+    by_rdates = listed_of clocks w event
 
     -- all that is sought from the instant on has a start among these
     abbrev HasSought : List Start → Type 0
@@ -175,7 +175,8 @@ module _ (zones : FileZones) (w : Window) (event : Event) where
           (⊎_elim
           (λ e. let f : Listed place ≡ Kept (local_of event.start.stamp) = ap (λ (x : Start). x.source) e in absurd cc)
           (λ m. m)
-          (listed-there zones w event place given g (sought-early zones w event (instant clocks (time_of given)) s))))
+          (listed-there zones w event place given g (sought-early zones w event (instant clocks (time_of given)) s)
+          (sought-counts zones w event (instant clocks (time_of given)) s (time_of given) refl))))
 
     -- Both kinds together.
     abbrev apart : List Start

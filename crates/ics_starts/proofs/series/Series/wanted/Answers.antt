@@ -7,9 +7,9 @@ use Rattle.ics_listing.specs.declared.occurrence.Occurrence.{Occurrence}
 use Rattle.ics_listing.specs.declared.start.Start.{Start}
 use Rattle.ics_listing.specs.declared.window.Window.{Window}
 use Rattle.ics_listing.specs.FileClocks.{Clocks}
-use Rattle.ics_starts.specs.Clocks.{clock_of, instant}
+use Rattle.ics_starts.specs.Clocks.{instant}
 use Rattle.ics_listing.specs.Entry.{Entry, entry_of}
-use Rattle.ics_starts.specs.Exclusions.{is_among, is_excluded, takes_out, AreExclusions}
+use Rattle.ics_starts.specs.Exclusions.{is_among, is_excluded}
 use Rattle.ics_starts.specs.Found.{met_by}
 use Rattle.ics_starts.specs.Meeting.{entry_from}
 use Rattle.ics_listing.specs.WindowMeeting.{is_met}
@@ -55,12 +55,10 @@ module _ (clocks : Clocks) (w : Window) (event : Event) (since : ℤ) (replaced 
         let meets = is_met-meets w from is.0 in
         (same, omega (arith, ints, same, meets.begun))
 
-    excluded : {view : Event} (instants days : List ℤ) {out : Bool} → view ≡ event → AreExclusions clocks event w instants days
-        → out ≡ takes_out (clock_of clocks view.start) instants days (to_z w64 (of_z w64 o.start)) → is_excluded clocks event from.start ≡ out
-    excluded instants days same all e =
+    excluded : {out : Bool} → out ≡ is_excluded clocks event (to_z w64 (of_z w64 o.start)) → is_excluded clocks event from.start ≡ out
+    excluded e =
         let fits : to_z w64 (of_z w64 o.start) ≡ o.start = omega (arith, ints, o.not_early, o.forward, o.not_late) in
-        sym (e ∙ (ap (λ (v : Event). takes_out (clock_of clocks v.start) instants days (to_z w64 (of_z w64 o.start))) same
-        ∙ (ap (takes_out (clock_of clocks event.start) instants days) (fits ∙ begun.0) ∙ all from.start (subst (λ t. t <ℤ w.to) begun.0 begun.1))))
+        sym (e ∙ ap (is_excluded clocks event) (fits ∙ begun.0))
 
 pub returns-then-names : goal.returns-then-names
 returns-then-names c =
@@ -75,29 +73,31 @@ returns-in_err-occurrence c =
     ap (option_map entry_of) c.from_residual.ensures
     ∙ sym (unmet (clocks_in s.zones) s.window s.event.now s.since s.replaced.instants.items c.args.start (sym c.in_err-occurrence.ensures))
 
-pub has-requires-clause-early : goal.has-requires-clause-early
-has-requires-clause-early c =
+pub is_removed-requires-clause-early : goal.is_removed-requires-clause-early
+is_removed-requires-clause-early c =
     let s = c.args.self.now in
     let start = begun (clocks_in s.zones) s.window s.event.now s.since s.replaced.instants.items c.args.start c.in_ok-occurrence.occurrence
     c.in_ok-occurrence.ensures in
     omega (arith, ints, c.type_inv.occurrence, start.1, s.window.not_late)
 
-pub returns-then-has : goal.returns-then-has
-returns-then-has c =
+pub returns-then-is_removed : goal.returns-then-is_removed
+returns-then-is_removed c =
     let s = c.args.self.now in
     let out = excluded (clocks_in s.zones) s.window s.event.now s.since s.replaced.instants.items c.args.start c.in_ok-occurrence.occurrence
-    c.in_ok-occurrence.ensures _ _ c.event.view_is s.taken_out c.has.ensures in
+    c.in_ok-occurrence.ensures c.is_removed.ensures in
     let fits : to_z w64 (of_z w64 c.args.start.moment) ≡ c.args.start.moment = search rules in
     sym (not-out (clocks_in s.zones) s.window s.event.now s.since s.replaced.instants.items c.args.start
     (omega (arith, ints, c.requires.moment, c.if-start-self.false))
-    (subst (λ t. is_among s.replaced.instants.items t ≡ false) (fits ∙ c.requires.moment) (sym c.names.ensures ∙ c.if-names.false)) (out ∙ c.if-has.true))
+    (subst (λ t. is_among s.replaced.instants.items t ≡ false) (fits ∙ c.requires.moment) (sym c.names.ensures ∙ c.if-names.false))
+    (out ∙ c.if-is_removed.true))
 
-pub returns-else-has : goal.returns-else-has
-returns-else-has c =
+pub returns-else-is_removed : goal.returns-else-is_removed
+returns-else-is_removed c =
     let s = c.args.self.now in
     let out = excluded (clocks_in s.zones) s.window s.event.now s.since s.replaced.instants.items c.args.start c.in_ok-occurrence.occurrence
-    c.in_ok-occurrence.ensures _ _ c.event.view_is s.taken_out c.has.ensures in
+    c.in_ok-occurrence.ensures c.is_removed.ensures in
     let fits : to_z w64 (of_z w64 c.args.start.moment) ≡ c.args.start.moment = search rules in
     c.in_ok-occurrence.ensures ∙ sym (not-out (clocks_in s.zones) s.window s.event.now s.since s.replaced.instants.items c.args.start
     (omega (arith, ints, c.requires.moment, c.if-start-self.false))
-    (subst (λ t. is_among s.replaced.instants.items t ≡ false) (fits ∙ c.requires.moment) (sym c.names.ensures ∙ c.if-names.false)) (out ∙ c.if-has.false))
+    (subst (λ t. is_among s.replaced.instants.items t ≡ false) (fits ∙ c.requires.moment) (sym c.names.ensures ∙ c.if-names.false))
+    (out ∙ c.if-is_removed.false))
