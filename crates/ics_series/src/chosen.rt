@@ -1,5 +1,5 @@
 //! The events that count: for each UID a master, and for each of its instances an override.
-ghost use Rattle.std.specs.Prelude.{◌≡◌, filter, map, IfOk};
+ghost use Rattle.std.specs.Prelude.{◌≡◌, false, filter, map, IfOk};
 ghost use Rattle.std.specs.List.Sorted.{IsSorted};
 ghost use Rattle.std.specs.Ordering.{on};
 ghost use Rattle.ics_file.specs.File.{said_by};
@@ -26,11 +26,38 @@ pub(crate) fn chosen<'a>(
     let mut versions = versions(alloc, files, display)?;
     // Files mostly have their events in some order of their UIDs: this sort keeps what is in order.
     versions.sort_by(compare)?;
-    last_of_each(alloc, &versions)
+    last_of_each(alloc, versions)
 }
 
-/// The last of each run of versions of one subject.
-fn last_of_each<'a>(alloc: Global, versions: &[Version<'a>]) -> Result<Vec<Version<'a>>, AllocError>
+/// The last of each run of versions of one subject. Where no subject has several versions, the list is given back as it is.
+fn last_of_each<'a>(
+    alloc: Global,
+    versions: Vec<Version<'a>>,
+) -> Result<Vec<Version<'a>>, AllocError>
+    ensures { IfOk result (λ last. map seen last.items ≡ lasts is_same (map seen versions.entry.items)) }
+{
+    if has_followed(&versions) {
+        lasts(alloc, &versions)
+    } else {
+        Ok(versions)
+    }
+}
+
+/// Whether two versions of one subject follow each other.
+fn has_followed(versions: &[Version<'_>]) -> bool
+    ensures { result ≡ false → lasts is_same (map seen versions.now) ≡ map seen versions.now }
+{
+    for (k, version) in versions.iter().enumerate() {
+        let rest = &versions[k + 1..];
+        if is_followed(version, rest) {
+            return true;
+        }
+    }
+    false
+}
+
+/// The last of each run of versions of one subject, as another list.
+fn lasts<'a>(alloc: Global, versions: &[Version<'a>]) -> Result<Vec<Version<'a>>, AllocError>
     ensures { IfOk result (λ last. map seen last.items ≡ lasts is_same (map seen versions.entry.now)) }
 {
     let mut last = Vec::new(alloc);

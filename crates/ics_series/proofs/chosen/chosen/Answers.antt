@@ -18,7 +18,7 @@ returns c = record {
       c.sort_by.ensures.permutation
       (climbs-by (on seen label_cmp) (on_total seen label_total) c.sort_by.new.self.items c.in_ok-sort_by.ensures.sorted
       (λ f a r f' k. search rules))
-      (subst (λ vs. map seen last.items ≡ lasts is_same (map seen vs)) c.deref.ensures.value h))
+      h)
       c.last_of_each.ensures;
   read = IfOk-weaker c.last_of_each.result _ (λ last. AreRead (map said_by c.args.files.now)) (λ last h. c.in_ok-versions.ensures.read) c.last_of_each.ensures;
 }

@@ -1,6 +1,6 @@
 use Rattle.std.proofs.lemmas.Grind.{common_steps}
 use Rattle.std.proofs.Common.{arith}
-use Rattle.ics_series.proofs.chosen.last_of_each.Goals as goal
+use Rattle.ics_series.proofs.chosen.lasts.Goals as goal
 
 pub loop-k-preserved-then-is_followed : goal.loop-k-preserved-then-is_followed
 loop-k-preserved-then-is_followed c = grind (arith, common_steps)

@@ -1,6 +1,6 @@
 use Rattle.std.proofs.Common.{◌≡◌, ◌++◌, map, drop}
 use Rattle.ics_series.specs.Versions.{lasts, seen, is_same}
-use Rattle.ics_series.proofs.chosen.last_of_each.Given as goal
+use Rattle.ics_series.proofs.chosen.lasts.Given as goal
 
 abbrev pub invariant-loop-k : goal.invariant-loop-k
 invariant-loop-k l =
