@@ -12,6 +12,7 @@ MONTHS = ','.join(str(month) for month in range(1, 13))
 HOURS = ','.join(str(hour) for hour in range(24))
 # The first week of a year has no day of these months.
 LATE = 'BYWEEKNO=1;BYMONTH=' + ','.join(str(month) for month in range(3, 12))
+WEEK = 'MO,TU,WE,TH,FR,SA,SU'
 DAY = ['2024-07-01', '1d']
 NEW_YORK = ['--zone', 'EST5EDT,M3.2.0,M11.1.0']
 
@@ -109,6 +110,11 @@ def once_each(count, *more):
     return [line for number in range(count) for line in ('BEGIN:VEVENT', 'UID:%d' % number, 'DTSTART;TZID=odd:19500701T000000', *more, 'END:VEVENT')]
 
 
+def named_thrice(parts, *more):
+    """Six events in one of three time zones of the same observances."""
+    return calendar([*zone('even', *parts), *zone('odd', *parts), *zone('prime', *parts), *once_each(6, *more)])
+
+
 def replaced():
     """An event with a PERIOD of ages, and what replaces it behind them."""
     return calendar(['BEGIN:VEVENT', 'UID:0', 'DTSTART:00010101T000000Z', 'RDATE;VALUE=PERIOD:00010102T000000Z/97900101T000000Z', 'END:VEVENT',
@@ -185,6 +191,10 @@ AGES = ['0001-01-05', '3570000d', '--every-day', '--limit', '1']
 QUARTER = ['2024-07-01', '92d', '--limit', '1']
 EXCLUDED = 'EXDATE;VALUE=DATE:' + ','.join('2024%02d%02d' % (month, day) for month in (7, 8, 9) for day in range(1, 32 - month // 9))
 LEAP_MONDAY = [part('STANDARD', '00010101T000000', '-2359', '+2359', 'RRULE:FREQ=YEARLY;BYYEARDAY=366;BYDAY=MO')]
+# The last day of a leap year.
+LEAP_END = [part('STANDARD', '0001010%dT0000%02d' % (number + 1, number), '-2359', '+%02d00' % (number * 23), 'RRULE:FREQ=YEARLY;BYDAY=%s;BYSETPOS=366' % WEEK)
+            for number in range(2)]
+LONG_AGO = 'RDATE;VALUE=DATE:' + ','.join('1000%02d%02d' % (month, day) for month in range(1, 11) for day in range(1, 21, 2))
 THIRTY = 'EXDATE;TZID=odd:' + ','.join('%04d0701T000000' % year for year in range(1600, 2200, 20))
 FAR = 'RDATE;TZID=odd:' + ','.join('%04d0701T120000' % year for year in range(2100, 8100, 150))
 
@@ -283,6 +293,14 @@ ROWS = [
      ['2024-01-01', '36525d', '--every-day'], 2, 32),
     ('6 events of 36,525 days by it, each day', lambda: calendar([*swung(*LEAP_MONDAY), *once_each(6, LONG)]),
      ['1960-01-01', '30000d', '--every-day', '--notstarted', '--limit', '1'], 1, 32),
+    ('the same beside two time zones like it', lambda: named_thrice(LEAP_MONDAY, LONG),
+     ['1960-01-01', '30000d', '--every-day', '--notstarted', '--limit', '1'], 1, 32),
+    ('days of 36,525 days by a clock that turns as leap years end', lambda: in_zone(LEAP_END, '00010701T000000', 'RRULE:FREQ=DAILY', LONG), DAY, 1, 32),
+    ('the same by 65 clocks that turn on a Monday at a leap year\'s end',
+     lambda: in_zone(ruled(65, 'FREQ=YEARLY;BYYEARDAY=366;BYDAY=MO'), '00010701T000000', 'RRULE:FREQ=DAILY', LONG), DAY, 4, 32),
+    ('days and 100 further dates of the year 1000, each day of ages by the clock of New York',
+     lambda: calendar(['BEGIN:VEVENT', 'UID:0@example.org', 'DTSTART;VALUE=DATE:00010101', 'RRULE:FREQ=DAILY', LONG_AGO, 'END:VEVENT']),
+     ['2024-01-01', '200000d', '--every-day', *NEW_YORK], 8, 32),
     ('12 rules behind a day that the clock skipped, each day',
      lambda: calendar(seconds(12, '', since='18441221')), ['1845-01-01', '9d', '--limit', '1', '--every-day', '--notstarted', '--zone-file', SKIPPED], 8, 64),
     ('127 rules since the day that the clock of Apia skipped, each day',
@@ -297,6 +315,11 @@ ROWS = [
     ('125 rules before their first day, each day', lambda: calendar(seconds(125, 'Z')), ['2024-06-29', '9d', '--limit', '1', '--every-day'], 1, 32),
     ('100 rules of a day before it by the clock of New York, each day', lambda: calendar(seconds(100, '', 'DURATION:P1D')),
      ['2024-06-29', '9d', '--limit', '1', '--every-day', *NEW_YORK], 4, 32),
+    ('dates under COUNT by a rule of seconds, a hundred years',
+     lambda: calendar(['BEGIN:VEVENT', 'UID:0@example.org', 'DTSTART;VALUE=DATE:20230101', 'RRULE:FREQ=SECONDLY;COUNT=4294967295', 'END:VEVENT']),
+     ['2024-01-01', '36525d'], 2, 32),
+    ('a second of each day under COUNT, 4 rules, each day of ten years',
+     lambda: rules(4, 'FREQ=SECONDLY;BYHOUR=7;BYMINUTE=3;BYSECOND=0;COUNT=4294967295'), ['2024-01-01', '3660d', '--every-day'], 4, 32),
     ('400,000 faulty events, --keep-going', lambda: faulty(400_000), [*DAY, '--keep-going'], 12, 256),
 ]
 
