@@ -65,6 +65,11 @@ const WALKED: usize = 64;
 /// How many spans are made for one instant, unless a zone has many offsets.
 const HELD_AT_ONCE: usize = 128;
 
+/// Behind so many places where spans are short others are held.
+const BURSTS: usize = 48;
+
+const WEEK: i64 = 7 * DAY;
+
 /// After so many spans no more are made, if they are shorter than a minute each.
 const SHORT_SPANS: usize = 16;
 
@@ -336,16 +341,47 @@ impl Observed {
         find_each(&mut self.onsets, from, to);
     }
 
-    /// The same, and it holds spans from the first instant on, if a few reach far.
+    /// Holds the spans from an instant on and up to another, if there is room for them. Answers there are faster, and none changes.
     pub fn reach_through(&mut self, from: Moment, to: Moment)
         ensures { self.new ≡ self.old }
     {
-        self.find_through(from, to);
         let last = to.clamp(FIRST_HELD, LAST_HELD);
         let first = from.clamp(FIRST_HELD, last);
         if self.room == 0 {
-            self.hold_from(first, last, last);
+            self.hold_through(first, last);
         }
+    }
+
+    /// Holds the spans from an instant on and up to another. Where short ones follow each other it goes on a week later.
+    fn hold_through(&mut self, from: Moment, to: Moment)
+        requires from { IsSearched from }
+        requires to { IsSearched to }
+        ensures { self.new ≡ self.old }
+    {
+        let mut at = from;
+        for _ in 0..BURSTS {
+            if at > to {
+                return;
+            }
+            self.hold_from(at, to, to);
+            let reached = self.held_up_to(at);
+            if reached > to {
+                return;
+            }
+            at = at.max(reached) + WEEK;
+        }
+    }
+
+    /// The end of the spans that are held one behind the other from an instant on.
+    fn held_up_to(&self, from: Moment) -> Moment {
+        let mut at = from;
+        for _ in 0..HELD_AT_ONCE {
+            match self.held_over(at, at) {
+                Some(held) => at = held.next,
+                None => return at,
+            }
+        }
+        at
     }
 
     /// The offset at an instant, in seconds: TZOFFSETTO of the greatest onset that is not after it or, before all onsets, TZOFFSETFROM of the
@@ -720,7 +756,8 @@ impl Observed {
     fn sort_held(&mut self)
         ensures { self.new ≡ self.old }
     {
-        self.held.sort_unstable_by_key(|span| span.from);
+        self.held
+            .sort_unstable_by_key(|span| (span.from, span.next));
     }
 
     /// Holds the spans from an instant on and up to another, some at a time, but only up to an earlier one if a span is long. Whether they reach so far.
