@@ -12,13 +12,23 @@ use std::alloc::AllocError;
 
 /// A feed and the first occurrence still to come, once it was drawn from it.
 #[derive(Drop)]
-pub(crate) struct Lead<'a, F: Coming> {
+pub struct Lead<'a, F: Coming> {
     pub(crate) feed: F,
     // As long as nothing was drawn, an instant before which no occurrence starts.
     pub(crate) unread: Option<Moment>,
     // None if nothing was drawn, or nothing is left.
     pub(crate) head: Option<Occurrence<'a>>,
     pub(crate) ghost ahead: { IsAhead unread head (F.coming feed) } by { IsAhead-prop unread head (F.coming feed) },
+}
+
+impl<'a, F: Coming + Drop> Lead<'a, F> {
+    /// Its feed.
+    pub fn into_feed(self) -> F
+        ensures { result ≡ self.entry.feed }
+    {
+        let Lead { feed, .. } = self;
+        feed
+    }
 }
 
 impl<'a, F: Coming> Lead<'a, F> {

@@ -25,6 +25,7 @@ pub use key::{Key, is_after};
 pub use laws::{
     day_keys_as_listed, keys_as_listed, listing_merged, one_day_spelling, one_spelling,
 };
+pub use lead::Lead;
 pub use listed_starts::{ListedStarts, firsts};
 pub use merge::Merge;
 pub use occurrence::Occurrence;

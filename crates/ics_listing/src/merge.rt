@@ -17,6 +17,7 @@ use crate::occurrence::Occurrence;
 use crate::tournament::{order_by_place, replay, winner, winners};
 use ics_values::Moment;
 use std::alloc::{AllocError, Global};
+use std::mem;
 
 /// Feeds as one feed. It gives each of their keys once; if several feeds have a key, it gives the entry
 /// of the first of them.
@@ -175,16 +176,18 @@ impl<'a, F: Feed<'a>> Merge<'a, F> {
 }
 
 impl<'a, F: Holding + Drop> Merge<'a, F> {
-    /// Drops the feeds and what was given last, so that nothing is to come. It allocates nothing.
-    pub fn end(&mut self)
+    /// Gives the feeds back, each with what was drawn from it, and drops what was given last, so that nothing is to come. It allocates nothing.
+    pub fn end(&mut self, alloc: Global) -> Vec<Lead<'a, F>>
         ensures coming { ⟦<Merge<'a, F> as Coming>⟧.coming self.new ≡ [] }
         ensures sources { ⟦<Merge<'a, F> as Coming>⟧.sources self.new ≡ [] }
         ensures holds { listed self.new.last (flat_map (λ l. listed l.head (F.holds l.feed)) self.new.leads.items) ≡ [] }
         ensures looked { sum_by (λ l. F.looked l.feed) self.new.leads.items ≡ 0 }
+        ensures leads { result.items ≡ self.old.leads.items }
     {
-        self.leads.clear();
+        let leads = mem::replace(&mut self.leads, Vec::new(alloc));
         self.winners.clear();
         self.last = None;
+        leads
     }
 }
 
