@@ -1,8 +1,9 @@
 -- Which starts EXDATEs take out.
 use Rattle.std.proofs.Common.{◌≡◌, ◌<◌, ℕ, ℤ, ◌+ℤ◌, ◌≤ℤ◌, Bool, true, false, ◌||◌, List, [], ◌∷◌, ◌++◌, length, get_or, Result, is_ok, refl, sym, ◌∙◌, ap}
-use Rattle.std.proofs.Common.{◌<ℤ◌, ◌-ℤ◌, w64, to_z, of_z, not, int_cmp, int_eq, arith}
+use Rattle.std.proofs.Common.{◌<ℤ◌, ◌-ℤ◌, w64, to_z, of_z, not, if◌then◌else◌, int_cmp, int_eq, int_le, arith}
 use Rattle.std.specs.List.{list_any}
 use Rattle.std.specs.List.Sorted.{IsBinarySearchResult, IsPermutation, IsSearchInRange, IsSorted}
+use Rattle.std.proofs.lemmas.Bool.{not-false}
 use Rattle.std.proofs.lemmas.Cmp.{int_cmp_total}
 use Rattle.std.proofs.lemmas.Int.{ints}
 use Rattle.std.proofs.lemmas.List.Elements.{Contains-get_or}
@@ -19,10 +20,12 @@ use Rattle.ics_starts.specs.declared.zones.FileZones.{FileZones}
 use Rattle.ics_listing.specs.FileClocks.{Clock, Clocks}
 use Rattle.ics_starts.specs.Clocks.{clock_of, instant}
 use Rattle.ics_event.specs.Event.{stamp_seconds}
-use Rattle.ics_starts.specs.Exclusions.{excludes_by, excludes_time, is_day_in, shown_day, takes_out, with_instant}
-use Rattle.ics_starts.specs.FileZones.{clocks_in, is_early, is_outside, is_past}
+use Rattle.ics_starts.specs.Exclusions.{excludes_by, excludes_time, is_among, is_day_in, is_known, shown_day, takes_out, with_instant}
+use Rattle.ics_starts.specs.FileZones.{clocks_in, is_early, is_past}
+use Rattle.ics_starts.specs.Found.{counts}
 use Rattle.ics_starts.proofs.InstantLemmas.{instant-near}
 use Rattle.ics_fields.specs.Locals.{whole_days}
+use Rattle.ics_listing.proofs.Cases.{equal-true}
 use Rattle.ics_listing.proofs.ListingLemmas.{in-any, in-contains, search-finds}
 
 -- how far two offsets lie apart
@@ -65,43 +68,66 @@ pub later-false : (zones : FileZones) (time : Time) (t : ℤ) → (t +ℤ whole_
     → int_eq (instant (clocks_in zones) time) t ≡ false
 later-false zones time t l = more-unequal (instant (clocks_in zones) time) t (omega (arith, ints, l, instant-near zones time))
 
-outside-false : (zones : FileZones) (w : Window) (from : ℤ) (time : Time) (t : ℤ) → from ≤ℤ t → t <ℤ w.to → is_outside w from time ≡ true
-    → int_eq (instant (clocks_in zones) time) t ≡ false
-outside-false zones w from time t on early = by (is_early from time) refl
+-- two instants differ if one of them is among some and the other is not
+unequal-among : (xs : List ℤ) (a b : ℤ) → is_among xs a ≡ false → is_among xs b ≡ true → int_eq a b ≡ false
+unequal-among xs a b out there = by (int_eq a b) refl
   where
-    by : (b : Bool) → is_early from time ≡ b → (b || is_past w time) ≡ true → int_eq (instant (clocks_in zones) time) t ≡ false
-    by true e h = let l = int_le_true (stamp_seconds time.stamp +ℤ whole_days 2) from e in early-false zones time t (omega (arith, ints, l, on))
-    by false e h = let l = int_le_true (w.to +ℤ whole_days 2) (stamp_seconds time.stamp) h in later-false zones time t (omega (arith, ints, l, early))
+    by : (same : Bool) → int_eq a b ≡ same → same ≡ false
+    by true e = let f : true ≡ false = sym there ∙ (ap (is_among xs) (sym (equal-true a b e)) ∙ out) in absurd cc
+    by false e = refl
 
--- the instant of a time takes out the start there, or lies before another or past the window
-module _ (zones : FileZones) (w : Window) (from : ℤ) (clock : Clock) (instants days : List ℤ) where
+-- a time that does not count is at no instant that is known
+uncounted-false : (zones : FileZones) (w : Window) (from : ℤ) (running : List ℤ) (time : Time) (t : ℤ) → is_known from running t ≡ true → t <ℤ w.to
+    → counts w from time (is_among running (instant (clocks_in zones) time)) ≡ false → int_eq (instant (clocks_in zones) time) t ≡ false
+uncounted-false zones w from running time t known early = by (is_early from time) refl
+  where
+    moment : ℤ
+    moment = instant (clocks_in zones) time
+
+    before : (on : Bool) → int_le from t ≡ on → (on || is_among running t) ≡ true → (stamp_seconds time.stamp +ℤ whole_days 2) ≤ℤ from
+        → is_among running moment ≡ false → int_eq moment t ≡ false
+    before true e k l out = early-false zones time t (omega (arith, ints, l, int_le_true from t e))
+    before false e k l out = unequal-among running moment t out k
+
+    by : (b : Bool) → is_early from time ≡ b → (if b then is_among running moment else not (is_past w time)) ≡ false → int_eq moment t ≡ false
+    by true e h = before (int_le from t) refl known (int_le_true (stamp_seconds time.stamp +ℤ whole_days 2) from e) h
+    by false e h =
+        let l = int_le_true (w.to +ℤ whole_days 2) (stamp_seconds time.stamp) (not-false (is_past w time) h) in
+        later-false zones time t (omega (arith, ints, l, early))
+
+-- the instant of a time takes out the start there, or does not count
+module _ (zones : FileZones) (w : Window) (from : ℤ) (running : List ℤ) (clock : Clock) (instants days : List ℤ) where
   added : (moment t : ℤ) → takes_out clock (with_instant true instants moment) days t ≡ (takes_out clock instants days t || int_eq moment t)
   added moment t =
       rw (list_any-append (λ x. int_eq x t) instants (moment ∷ []))
       (or-moved (list_any (λ x. int_eq x t) instants) (int_eq moment t) (is_day_in clock days t))
 
-  pub pushed-instant : {new : List ℤ} (time : Time) {t : ℤ} → from ≤ℤ t → t <ℤ w.to
-      → new ≡ with_instant (not (is_outside w from time)) instants (instant (clocks_in zones) time)
+  -- whether a time counts
+  abbrev counted : Time → Bool
+  counted time = counts w from time (is_among running (instant (clocks_in zones) time))
+
+  pub pushed-instant : {new : List ℤ} (time : Time) {t : ℤ} → is_known from running t ≡ true → t <ℤ w.to
+      → new ≡ with_instant (counts w from time (is_among running (instant (clocks_in zones) time))) instants (instant (clocks_in zones) time)
       → takes_out clock new days t ≡ (takes_out clock instants days t || int_eq (instant (clocks_in zones) time) t)
-  pushed-instant time {t = t} on early e =
+  pushed-instant time {t = t} known early e =
       ap (λ xs. takes_out clock xs days t) e
-      ∙ by (instant (clocks_in zones) time) (is_outside w from time) (outside-false zones w from time t on early)
+      ∙ by (instant (clocks_in zones) time) (counted time) (uncounted-false zones w from running time t known early)
     where
-      by : (moment : ℤ) (out : Bool) → (out ≡ true → int_eq moment t ≡ false)
-          → takes_out clock (with_instant (not out) instants moment) days t ≡ (takes_out clock instants days t || int_eq moment t)
-      by moment true h = sym (ap (λ b. takes_out clock instants days t || b) (h refl) ∙ or-false (takes_out clock instants days t))
-      by moment false h = added moment t
+      by : (moment : ℤ) (b : Bool) → (b ≡ false → int_eq moment t ≡ false)
+          → takes_out clock (with_instant b instants moment) days t ≡ (takes_out clock instants days t || int_eq moment t)
+      by moment true h = added moment t
+      by moment false h = sym (ap (λ b. takes_out clock instants days t || b) (h refl) ∙ or-false (takes_out clock instants days t))
 
   -- and no other
-  pub pushed-only : {new : List ℤ} (time : Time) (t : ℤ) → new ≡ with_instant (not (is_outside w from time)) instants (instant (clocks_in zones) time)
+  pub pushed-only : {new : List ℤ} (time : Time) (t : ℤ)
+      → new ≡ with_instant (counts w from time (is_among running (instant (clocks_in zones) time))) instants (instant (clocks_in zones) time)
       → takes_out clock new days t ≡ true → (takes_out clock instants days t || int_eq (instant (clocks_in zones) time) t) ≡ true
-  pushed-only time t e h =
-      by (instant (clocks_in zones) time) (is_outside w from time) (ap (λ xs. takes_out clock xs days t) (sym e) ∙ h)
+  pushed-only time t e h = by (instant (clocks_in zones) time) (counted time) (ap (λ xs. takes_out clock xs days t) (sym e) ∙ h)
     where
-      by : (moment : ℤ) (out : Bool) → takes_out clock (with_instant (not out) instants moment) days t ≡ true
+      by : (moment : ℤ) (b : Bool) → takes_out clock (with_instant b instants moment) days t ≡ true
           → (takes_out clock instants days t || int_eq moment t) ≡ true
-      by moment true k = rw k refl
-      by moment false k = sym (added moment t) ∙ k
+      by moment true k = sym (added moment t) ∙ k
+      by moment false k = rw k refl
 
 -- a day more takes out the starts at which the clock shows it
 or-third : (a b c : Bool) → (a || (b || (c || false))) ≡ ((a || b) || c)

@@ -15,9 +15,12 @@ pub mod SettledLemmas
 pub mod SoughtLemmas
 pub mod UntilLemmas
 pub mod EntryLemmas
+mod FindLemmas
+mod KeptLemmas
 pub mod ZoneLemmas
 pub mod PassedLemmas
 pub mod RemovedLemmas
+pub mod TakenLemmas
 pub mod EndedLemmas
 pub mod OverLemmas
 pub mod SameLemmas

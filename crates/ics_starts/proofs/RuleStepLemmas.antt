@@ -1,7 +1,7 @@
 -- One step of reading the starts of a rule: a kept local more, or none up to a bound.
 use lib.Signed.{mag}
 use Rattle.std.proofs.Common.{◌≡◌, ℕ, ◌+◌, ◌<◌, ◌≤◌, w32, w64, to_z, of_z, max, ℤ, pos, ◌+ℤ◌, ◌-ℤ◌, Bool, true, false, ◌&&◌, List, [], ◌∷◌, length, ◌⊎◌}
-use Rattle.std.proofs.Common.{inl, inr, ⊎_elim, refl, sym, ap, arith, ◌≤ℤ◌, ◌<ℤ◌, int_lt, not, slice_get, Option, Some, None, ◌==◌, ◌∙◌}
+use Rattle.std.proofs.Common.{inl, inr, ⊎_elim, refl, sym, ap, subst, arith, ◌≤ℤ◌, ◌<ℤ◌, int_lt, not, slice_get, Option, Some, None, ◌==◌, ◌∙◌}
 use Rattle.std.proofs.lemmas.Bool.{eqb-true, or_cases}
 use Rattle.std.proofs.lemmas.Int.{int_max_is, int_min_is, ints}
 use Rattle.std.specs.Int.{int_max}
@@ -20,6 +20,7 @@ use Rattle.ics_listing.specs.declared.start.Start.{Start}
 use Rattle.ics_listing.specs.declared.window.Window.{Window}
 use Rattle.ics_starts.specs.declared.zones.FileZones.{FileZones}
 use Rattle.ics_listing.specs.StartOrder.{moment_cmp}
+use Rattle.ics_starts.specs.Clocks.{clock_of, IsStretched}
 use Rattle.ics_starts.specs.Found.{start_at}
 use Rattle.ics_starts.specs.RawStarts.{most_in_days}
 use Rattle.ics_listing.specs.Listing.{IsIn}
@@ -32,6 +33,7 @@ use Rattle.ics_starts.specs.RuleStarts.{IsHeld, IsReadTo}
 use Rattle.ics_listing.specs.StartTimes.{local_of, time_at}
 use Rattle.ics_zone.specs.Observances.{is_until}
 use Rattle.ics_zone.specs.Seconds.{IsMoment}
+use Rattle.ics_zone.specs.declared.stretch.Stretch.{Stretch}
 use Rattle.ics_starts.specs.FileZones.{clocks_in, IsTimeOf}
 use Rattle.ics_listing.proofs.StartOrderLemmas.{calendar-day, number-seconds, own-day}
 use Rattle.ics_starts.proofs.StartSourceLemmas.{kept-time, numbered-number}
@@ -147,6 +149,15 @@ module _ (s : RuleStarts) where
 
   pub end-days : IsDayNumber s.end
   end-days = (omega (arith, ints, s.reached.low, s.reached.on, s.reached.by_end), omega (arith, ints, end-soon, s.window.not_late))
+
+  -- the midnight of the end, as it is read back
+  pub end-back : {at : Local} {seconds : ℤ} → at ≡ local_at (to_z w32 (of_z w32 s.end)) 0 → seconds ≡ local_seconds at → seconds ≡ midnight s.end
+  end-back is e = let there = ap (λ (l : Local). local_seconds l) is in omega (arith, ints, e, there, day-back s.end end-days)
+
+  -- what is known of the clock of the event as it is seen is known of that of the event
+  pub told-known : {v : Event} {stretch : Stretch} → v ≡ s.event.now → IsStretched (clock_of (clocks_in s.zones) v.start) stretch
+      → IsStretched (clock_of (clocks_in s.zones) s.event.now.start) stretch
+  told-known {stretch = stretch} is h = subst (λ (v : Event). IsStretched (clock_of (clocks_in s.zones) v.start) stretch) is h
 
   -- a local that gives a start has a day before the end
   given-early : (day : ℤ) (n : ℕ) → IsDayNumber day → midnight_number day ≤ n → gives (clocks_in s.zones) s.event.now s.rule s.window n ≡ true →

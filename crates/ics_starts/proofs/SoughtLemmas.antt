@@ -2,8 +2,8 @@
 use Rattle.std.proofs.Common.{◌≡◌, ℕ, suc, ◌+◌, ◌<◌, ℤ, ◌+ℤ◌, ◌-ℤ◌, ◌<ℤ◌, ◌≤ℤ◌, List, [], ◌∷◌, length, get_or, drop, add-one, Bool, true, false, Some}
 use Rattle.std.proofs.Common.{Option, pos, ◌&&◌, int_le}
 use Rattle.std.proofs.Common.{None, option_map, inl, inr, ⊎_elim, sym, ◌∙◌, ap, subst, arith, zero, ◌⊎◌, refl, drop-cons, slice_get, not, if◌then◌else◌}
-use Rattle.std.specs.Int.{int_min}
 use Rattle.std.proofs.lemmas.Int.{int_max_is, int_min_is, ints}
+use Rattle.std.proofs.lemmas.Map.Keys.{any_passes_from_place}
 use Rattle.ics_event.specs.declared.event.Event.{Event}
 use Rattle.ics_event.specs.Event.{Rdate}
 use Rattle.ics_values.specs.declared.time.Rdate.TheVariants.{At, Span}
@@ -17,8 +17,9 @@ use Rattle.ics_starts.specs.Clocks.{clock_by, clock_of, instant, IsBounded}
 use Rattle.ics_zone.specs.declared.bounds.Bounds.{Bounds}
 use Rattle.ics_event.specs.Event.{stamp_seconds}
 use Rattle.ics_starts.specs.Finish.{days_lasting, end_by, seconds_by, seconds_lasting, span_end}
-use Rattle.ics_starts.specs.Found.{counts_by, counts_from, counts_with, earlier, earliest, earliest_from, first_met, is_over, is_span_met, listed_from}
-use Rattle.ics_starts.specs.Found.{span_local, start_at, start_by, IsSought, with_front}
+use Rattle.ics_starts.specs.Found.{begins_at, counts, counts_from, earlier, earliest, earliest_from, first_met, is_running, is_over, is_span_met}
+use Rattle.ics_starts.specs.Exclusions.{is_among}
+use Rattle.ics_starts.specs.Found.{listed_from, span_local, start_at, start_by, with_front, AreRunning, IsSought}
 use Rattle.ics_starts.specs.SeriesStarts.{listed_of}
 use Rattle.ics_starts.specs.Leeway.{late_by, late_within, rule_late, seconds_late}
 use Rattle.ics_listing.specs.Listing.{IsIn}
@@ -26,7 +27,7 @@ use Rattle.ics_starts.specs.Meeting.{entry_from}
 use Rattle.ics_starts.specs.MeetsWindow.{Meets}
 use Rattle.ics_starts.specs.Starts.{given_by, recurrence_by, GivesStart}
 use Rattle.ics_listing.specs.StartTimes.{local_of, stamp_at, time_at, time_of}
-use Rattle.ics_starts.specs.FileZones.{clocks_in, is_early, is_outside, is_past}
+use Rattle.ics_starts.specs.FileZones.{clocks_in, is_early, is_past}
 use Rattle.ics_starts.proofs.InstantLemmas.{bounds-apart, instant-near, later-bound, later-bounded, meets-late, seconds-least}
 use Rattle.ics_zone.proofs.Cases.{int_le_true}
 use Rattle.ics_starts.proofs.MeetsLemmas.{less-le, meets-is_met}
@@ -37,7 +38,7 @@ use Rattle.ics_values.specs.declared.time.Length.TheVariants.{Lasting, Open, Unt
 use Rattle.ics_values.specs.declared.stamp.Stamp.{Stamp}
 use Rattle.ics_values.specs.declared.stamp.Stamp.TheVariants.{Date, Floating, Utc, Zoned}
 use Rattle.ics_event.specs.Event.{Time}
-use Rattle.ics_listing.proofs.Cases.{some-same}
+use Rattle.ics_listing.proofs.Cases.{some-same, true-equal}
 
 -- a start of the list is by one of the RDATEs
 pub record IsListed (clocks : Clocks) (first : Time) (place : ℕ) (rdates : List Rdate) (s : Start) : Type 0 where
@@ -46,47 +47,63 @@ pub record IsListed (clocks : Clocks) (first : Time) (place : ℕ) (rdates : Lis
   pub stands : slice_get rdates index ≡ Some rdate
   pub is : s ≡ start_by clocks (Listed (place + index)) (given_by first rdate)
 
-module _ (clocks : Clocks) (w : Window) (from : ℤ) (first : Time) where
-  behind : (place : ℕ) (r : Rdate) (rdates : List Rdate) (s : Start) → IsListed clocks first (place + 1) rdates s → IsListed clocks first place (r ∷ rdates) s
-  behind place r rdates s k = record {
-    index = suc k.index;
-    rdate = k.rdate;
-    stands = k.stands;
-    is = k.is ∙ ap (λ n. start_by clocks (Listed n) (given_by first k.rdate)) (omega arith);
-  }
+behind : (clocks : Clocks) (first : Time) (place : ℕ) (r : Rdate) (rdates : List Rdate) (s : Start) → IsListed clocks first (place + 1) rdates s
+    → IsListed clocks first place (r ∷ rdates) s
+behind clocks first place r rdates s k = record {
+  index = suc k.index;
+  rdate = k.rdate;
+  stands = k.stands;
+  is = k.is ∙ ap (λ n. start_by clocks (Listed n) (given_by first k.rdate)) (omega arith);
+}
+
+module _ (clocks : Clocks) (w : Window) (from : ℤ) (event : Event) where
+  abbrev value : Rdate → Rdate
+  value r = given_by event.start r
+
+  -- whether the start by a value counts
+  abbrev value_counts : Rdate → Bool
+  value_counts r = counts w from (time_of (value r)) (is_running clocks w event (instant clocks (time_of (value r))))
 
   in-front : (b : Bool) (s x : Start) (xs : List Start) → IsIn s (with_front b x xs) → (s ≡ x) ⊎ IsIn s xs
   in-front true s x xs m = m
   in-front false s x xs m = inr m
 
-  pub listed-in : (place : ℕ) (rdates : List Rdate) (s : Start) → IsIn s (listed_from clocks w from first place rdates) → IsListed clocks first place rdates s
+  pub listed-in : (place : ℕ) (rdates : List Rdate) (s : Start) → IsIn s (listed_from clocks w from event place rdates)
+      → IsListed clocks event.start place rdates s
   listed-in place [] s m = absurd m
   listed-in place (r ∷ rdates) s m =
       ⊎_elim
-      (λ e. record { index = 0; rdate = r; stands = refl; is = e ∙ ap (λ n. start_by clocks (Listed n) (given_by first r)) (omega arith) })
-      (λ n. behind place r rdates s (listed-in (place + 1) rdates s n))
-      (in-front (not (is_outside w from (time_of (given_by first r)))) s (start_by clocks (Listed place) (given_by first r))
-      (listed_from clocks w from first (place + 1) rdates) m)
+      (λ e. record { index = 0; rdate = r; stands = refl; is = e ∙ ap (λ n. start_by clocks (Listed n) (value r)) (omega arith) })
+      (λ n. behind clocks event.start place r rdates s (listed-in (place + 1) rdates s n))
+      (in-front (value_counts r) s (start_by clocks (Listed place) (value r)) (listed_from clocks w from event (place + 1) rdates) m)
 
   rest-in : (b : Bool) (s x : Start) (xs : List Start) → IsIn s xs → IsIn s (with_front b x xs)
   rest-in true s x xs m = inr m
   rest-in false s x xs m = m
 
-  -- each of them whose local does not tell that it is out of reach is there
-  pub in-listed : (place k : ℕ) (rdates : List Rdate) {r : Rdate} {at : ℕ} → at ≡ place + k → slice_get rdates k ≡ Some r →
-      is_outside w from (time_of (given_by first r)) ≡ false →
-      IsIn (start_by clocks (Listed at) (given_by first r)) (listed_from clocks w from first place rdates)
+  -- each of them that counts is there
+  pub in-listed : (place k : ℕ) (rdates : List Rdate) {r : Rdate} {at : ℕ} → at ≡ place + k → slice_get rdates k ≡ Some r → value_counts r ≡ true →
+      IsIn (start_by clocks (Listed at) (value r)) (listed_from clocks w from event place rdates)
   in-listed place k [] {r = r} a e p = let f : None ≡ Some r = e in absurd cc
   in-listed place zero (q ∷ rdates) {r = r} {at = at} a e p =
       let same : r ≡ q = some-same r q (sym e) in
       let here : at ≡ place = omega (arith, a) in
-      let wanted : not (is_outside w from (time_of (given_by first q))) ≡ true =
-      ap (λ x. not (is_outside w from (time_of (given_by first x)))) (sym same) ∙ ap not p in
-      rw wanted (inl (λ i. start_by clocks (Listed (here i)) (given_by first (same i))))
+      let wanted : value_counts q ≡ true = ap value_counts (sym same) ∙ p in
+      rw wanted (inl (λ i. start_by clocks (Listed (here i)) (value (same i))))
   in-listed place (suc k) (q ∷ rdates) {r = r} {at = at} a e p =
-      rest-in (not (is_outside w from (time_of (given_by first q)))) (start_by clocks (Listed at) (given_by first r))
-      (start_by clocks (Listed place) (given_by first q)) (listed_from clocks w from first (place + 1) rdates)
-      (in-listed (place + 1) k rdates (omega (arith, a)) e p)
+      rest-in (value_counts q) (start_by clocks (Listed at) (value r)) (start_by clocks (Listed place) (value q))
+      (listed_from clocks w from event (place + 1) rdates) (in-listed (place + 1) k rdates (omega (arith, a)) e p)
+
+  -- one value further on
+  pub listed-step : (place : ℕ) (rdates : List Rdate) {r : Rdate} (counting : Bool) → place < length rdates → r ≡ get_or rdates place r
+      → value_counts r ≡ counting → listed_from clocks w from event place (drop place rdates)
+      ≡ with_front counting (start_by clocks (Listed place) (value r)) (listed_from clocks w from event (place + 1) (drop (place + 1) rdates))
+  listed-step place rdates {r = r} counting l e is =
+      let front : drop place rdates ≡ r ∷ drop (suc place) rdates = drop-cons rdates place r l ∙ ap (λ x. x ∷ drop (suc place) rdates) (sym e) in
+      let s = start_by clocks (Listed place) (value r) in
+      ap (listed_from clocks w from event place) front
+      ∙ (ap (λ b. with_front b s (listed_from clocks w from event (place + 1) (drop (suc place) rdates))) is
+      ∙ ap (λ n. with_front counting s (listed_from clocks w from event (place + 1) (drop n rdates))) (sym (add-one place)))
 
 -- From where on the rule is asked.
 earlier-is : (b : Bool) (least t : ℤ) → (earlier b least t ≤ℤ least) × (b ≡ true → earlier b least t ≤ℤ t)
@@ -139,55 +156,45 @@ late-range [] (Zoned local) (Until end) apart h = (omega (arith, ints), omega (a
 abbrev pub front : Clocks → Window → Event → List Start
 front clocks w event = start_at clocks event (local_of event.start.stamp) ∷ listed_of clocks w event
 
--- From where on RDATEs count.
-module _ (w : Window) (first : Time) where
-  abbrev before : Time → ℤ
-  before start = stamp_seconds start.stamp -ℤ whole_days 2
-
-  with-most : (least : ℤ) (r : Rdate) → counts_with w least r ≤ℤ least
-  with-most least (At time) = omega (arith, ints)
-  with-most least (Span start length) = by (is_over w start length)
-    where
-      by : (b : Bool) → (if b then least else int_min least (before start)) ≤ℤ least
-      by true = omega (arith, ints)
-      by false = omega (arith, ints, int_min_is least (before start))
-
-  with-span : (least : ℤ) (start : Time) (length : Length) → is_over w start length ≡ false → counts_with w least (Span start length) ≤ℤ before start
-  with-span least start length = by (is_over w start length)
-    where
-      by : (b : Bool) → b ≡ false → (if b then least else int_min least (before start)) ≤ℤ before start
-      by true e = let f : true ≡ false = e in absurd cc
-      by false e = omega (arith, ints, int_min_is least (before start))
-
-  counts-most : (least : ℤ) (rdates : List Rdate) → counts_by w first least rdates ≤ℤ least
-  counts-most least [] = omega (arith, ints)
-  counts-most least (r ∷ rdates) =
-      omega (arith, ints, counts-most (counts_with w least (given_by first r)) rdates, with-most least (given_by first r))
-
-  counts-each : (least : ℤ) (k : ℕ) (rdates : List Rdate) {r : Rdate} (start : Time) (length : Length) → slice_get rdates k ≡ Some r
-      → given_by first r ≡ Span start length → is_over w start length ≡ false → counts_by w first least rdates ≤ℤ before start
-  counts-each least k [] {r = r} start length e g o = let f : None ≡ Some r = e in absurd cc
-  counts-each least zero (q ∷ rdates) {r = r} start length e g o =
-      let is : given_by first q ≡ Span start length = ap (given_by first) (some-same q r e) ∙ g in
-      let one = subst (λ v. counts_with w least v ≤ℤ before start) (sym is) (with-span least start length o) in
-      omega (arith, ints, counts-most (counts_with w least (given_by first q)) rdates, one)
-  counts-each least (suc k) (q ∷ rdates) start length e g o = counts-each (counts_with w least (given_by first q)) k rdates start length e g o
+-- a start that is not past the window's end counts, if a PERIOD that is not over begins at its instant or its local does not tell that it is early
+counts-by : (early running past : Bool) → past ≡ false → (early ≡ true → running ≡ true) → (if early then running else not past) ≡ true
+counts-by true running past p h = h refl
+counts-by false running past p h = ap not p
 
 module _ (zones : FileZones) (w : Window) (event : Event) where
   -- from when on the starts by RDATEs count
   abbrev counted : ℤ
   counted = counts_from (clocks_in zones) w event
 
+  -- a PERIOD that is not over begins at the instant of a time, if the time's local tells that it is before that
+  abbrev IsCounted : Time → Type 0
+  IsCounted time = is_early counted time ≡ true → is_running (clocks_in zones) w event (instant (clocks_in zones) time) ≡ true
+
   pub listed-there : (place : ℕ) (given : Rdate) → GivesStart (clocks_in zones) event (Listed place) given → instant (clocks_in zones) (time_of given) <ℤ w.to
-      → is_early counted (time_of given) ≡ false → IsIn (start_by (clocks_in zones) (Listed place) given) (front (clocks_in zones) w event)
+      → IsCounted (time_of given) → IsIn (start_by (clocks_in zones) (Listed place) given) (front (clocks_in zones) w event)
   listed-there place given g early late =
       let time = time_of (given_by event.start g.0) in
       let same = ap (λ x. instant (clocks_in zones) (time_of x)) g.2 in
       let past : is_past w time ≡ false =
       less-le (w.to +ℤ whole_days 2) (stamp_seconds time.stamp) (omega (arith, ints, same, early, instant-near zones time)) in
-      let outside : is_outside w counted time ≡ false = rw (past, ap (λ v. is_early counted (time_of v)) (sym g.2) ∙ late) refl in
+      let count = counts-by (is_early counted time) (is_running (clocks_in zones) w event (instant (clocks_in zones) time)) (is_past w time) past
+      (subst (λ v. IsCounted (time_of v)) g.2 late) in
       inr (subst (λ v. IsIn (start_by (clocks_in zones) (Listed place) v) (listed_of (clocks_in zones) w event)) (sym g.2)
-      (in-listed (clocks_in zones) w counted event.start 0 place event.rdates (omega arith) g.1 outside))
+      (in-listed (clocks_in zones) w counted event 0 place event.rdates (omega arith) g.1 count))
+
+  -- whether a start counts can be told by the instants before that one
+  pub counts-same : (from : ℤ) (running : List ℤ) → AreRunning (clocks_in zones) w event from running → (time : Time)
+      → counts w from time (is_among running (instant (clocks_in zones) time))
+      ≡ counts w from time (is_running (clocks_in zones) w event (instant (clocks_in zones) time))
+  counts-same from running are time = by (is_early from time) refl
+    where
+      moment : ℤ
+      moment = instant (clocks_in zones) time
+
+      by : (early : Bool) → is_early from time ≡ early → (if early then is_among running moment else not (is_past w time))
+          ≡ (if early then is_running (clocks_in zones) w event moment else not (is_past w time))
+      by true e = are moment (omega (arith, ints, int_le_true (stamp_seconds time.stamp +ℤ whole_days 2) from e, instant-near zones time))
+      by false e = refl
 
   pub sought-early : (t : ℤ) → IsSought (clocks_in zones) event w t → t <ℤ w.to
   sought-early t s = omega (arith, ints, s.starts, s.meets.begun)
@@ -222,22 +229,24 @@ module _ (zones : FileZones) (w : Window) (event : Event) where
       by true false p q = refl
       by false b p q = refl
 
-  -- no time at an instant that is sought is before the one from which on starts by RDATEs count
-  pub sought-counts : (t : ℤ) → IsSought (clocks_in zones) event w t → (time : Time) → instant (clocks_in zones) time ≡ t → is_early counted time ≡ false
-  sought-counts t s time at =
-      less-le (stamp_seconds time.stamp +ℤ whole_days 2) counted
-      (omega (arith, ints, late s.source s.given s.gives s.starts s.meets, at, instant-near zones time))
+  -- each time at an instant that is sought counts
+  pub sought-counts : (t : ℤ) → IsSought (clocks_in zones) event w t → (time : Time) → instant (clocks_in zones) time ≡ t → IsCounted time
+  sought-counts t s time at early = by s.source s.given s.gives s.starts s.meets
     where
-      first : ℤ
-      first = first_met (clocks_in zones) w event -ℤ whole_days 4
+      at-instant : ℤ
+      at-instant = instant (clocks_in zones) time
 
-      late : (source : StartSource) (given : Rdate) → GivesStart (clocks_in zones) event source given → instant (clocks_in zones) (time_of given) ≡ t
-          → Meets w (entry_from (clocks_in zones) event given) → counted ≤ℤ t
-      late source (At given) g e m = omega (arith, ints, e, met-late given m w.notstarted refl, counts-most w event.start first event.rdates)
-      late (Kept local) (Span start lasts) g e m = let f : Span start lasts ≡ At (time_at event.start local) = g.1 in absurd cc
-      late (Listed place) (Span start lasts) g e m =
-          let each = counts-each w event.start first place event.rdates start lasts g.1 (sym g.2) (met-span start lasts m) in
-          omega (arith, ints, e, each, instant-near zones start)
+      by : (source : StartSource) (given : Rdate) → GivesStart (clocks_in zones) event source given → instant (clocks_in zones) (time_of given) ≡ t →
+          Meets w (entry_from (clocks_in zones) event given) → is_running (clocks_in zones) w event at-instant ≡ true
+      by source (At given) g e m =
+          let before = int_le_true (stamp_seconds time.stamp +ℤ whole_days 2) counted early in
+          absurd (omega (arith, ints, e, at, met-late given m w.notstarted refl, before, instant-near zones time))
+      by (Kept local) (Span start lasts) g e m = let f : Span start lasts ≡ At (time_at event.start local) = g.1 in absurd cc
+      by (Listed place) (Span start lasts) g e m =
+          let begins : begins_at (clocks_in zones) w at-instant (Span start lasts) ≡ true =
+          rw (met-span start lasts m) (true-equal (instant (clocks_in zones) start) at-instant (e ∙ sym at)) in
+          any_passes_from_place (λ r. begins_at (clocks_in zones) w at-instant (given_by event.start r)) event.rdates place g.0 g.1
+          (subst (λ v. begins_at (clocks_in zones) w at-instant v ≡ true) g.2 begins)
 
   -- what is sought begins at most four days before what counts first
   pub sought-late : (t : ℤ) → IsSought (clocks_in zones) event w t → (earliest (clocks_in zones) w event (front (clocks_in zones) w event) -ℤ whole_days 4) ≤ℤ t

@@ -1,5 +1,5 @@
 -- Which starts the EXDATEs of an event remove (RFC 5545, section 3.8.5.1).
-use Rattle.std.specs.Prelude.{◌≡◌, ◌<ℤ◌, ◌≤ℤ◌, ℤ, Bool, true, false, ◌||◌, List, [], ◌∷◌, ◌++◌}
+use Rattle.std.specs.Prelude.{◌≡◌, ◌<ℤ◌, ℤ, Bool, true, false, ◌||◌, int_le, List, [], ◌∷◌, ◌++◌}
 use Rattle.std.specs.List.{list_any}
 use Rattle.std.specs.Ordering.{int_eq}
 use Rattle.ics_values.specs.declared.stamp.Stamp.{Stamp}
@@ -50,10 +50,15 @@ is_among instants t = list_any (λ x. int_eq x t) instants
 abbrev pub takes_out : Clock → List ℤ → List ℤ → ℤ → Bool
 takes_out clock instants days t = is_among instants t || is_day_in clock days t
 
--- Of the starts from an instant on and before the window's end, they remove those that the EXDATEs remove, and no others at all.
-pub record AreExclusions (clocks : Clocks) (event : Event) (w : Window) (from : ℤ) (instants days : List ℤ) : Type 0 where
+-- an instant is not before one, or is one of some
+abbrev pub is_known : ℤ → List ℤ → ℤ → Bool
+is_known from running t = int_le from t || is_among running t
+
+-- Of the starts before the window's end that are not before an instant, or are at one of some, they remove those that the EXDATEs remove, and no others
+-- at all.
+pub record AreExclusions (clocks : Clocks) (event : Event) (w : Window) (from : ℤ) (running instants days : List ℤ) : Type 0 where
   pub only : (t : ℤ) → takes_out (clock_of clocks event.start) instants days t ≡ true → is_excluded clocks event t ≡ true
-  pub same : (t : ℤ) → from ≤ℤ t → t <ℤ w.to → takes_out (clock_of clocks event.start) instants days t ≡ is_excluded clocks event t
+  pub same : (t : ℤ) → is_known from running t ≡ true → t <ℤ w.to → takes_out (clock_of clocks event.start) instants days t ≡ is_excluded clocks event t
 
 -- the list, with an instant added at its end if the test passes
 abbrev pub with_instant : Bool → List ℤ → ℤ → List ℤ

@@ -1,7 +1,9 @@
 -- The starts by which an event can meet a window, as they are found.
-use Rattle.std.specs.Prelude.{◌≡◌, ◌≤ℤ◌, ◌+ℤ◌, ◌-ℤ◌, ℕ, ◌+◌, ◌*◌, ℤ, pos, Bool, true, false, ◌&&◌, not, int_le, List, [], ◌∷◌, length}
+use Rattle.std.specs.Prelude.{◌≡◌, ◌<ℤ◌, ◌≤ℤ◌, ◌+ℤ◌, ◌-ℤ◌, ℕ, ◌+◌, ◌*◌, ℤ, pos, Bool, true, false, ◌&&◌, not, int_le, int_lt, List, [], ◌∷◌, length}
 use Rattle.std.specs.Prelude.{Option, Some, None, if◌then◌else◌}
 use Rattle.std.specs.Int.{int_min}
+use Rattle.std.specs.List.{list_any}
+use Rattle.std.specs.Ordering.{int_eq}
 use Rattle.ics_fields.specs.declared.local.Local.{Local}
 use Rattle.ics_event.specs.Event.{stamp_seconds, IsRdate, Length, RdateBelow}
 use Rattle.ics_event.specs.declared.event.Event.{Event}
@@ -25,7 +27,8 @@ use Rattle.ics_starts.specs.Meeting.{entry_from}
 use Rattle.ics_starts.specs.MeetsWindow.{Meets}
 use Rattle.ics_starts.specs.Starts.{given_by, GivesStart}
 use Rattle.ics_listing.specs.StartTimes.{time_at, time_of}
-use Rattle.ics_starts.specs.FileZones.{clocks_in, is_outside}
+use Rattle.ics_starts.specs.Exclusions.{is_among}
+use Rattle.ics_starts.specs.FileZones.{clocks_in, is_early, is_past}
 use Rattle.ics_fields.specs.Locals.{whole_days}
 use Rattle.ics_listing.specs.StartOrder.{HasStart, moment_cmp}
 
@@ -73,14 +76,6 @@ abbrev pub with_front : Bool → Start → List Start → List Start
 with_front true s starts = s ∷ starts
 with_front false s starts = starts
 
--- The starts by the values of RDATEs, which are those from a place on. Those are left out whose local tells that they are before an instant or
--- past the window's end.
-abbrev pub listed_from : Clocks → Window → ℤ → Time → ℕ → List Rdate → List Start
-listed_from clocks w from first place [] = []
-listed_from clocks w from first place (rdate ∷ rdates) =
-    with_front (not (is_outside w from (time_of (given_by first rdate)))) (start_by clocks (Listed place) (given_by first rdate))
-    (listed_from clocks w from first (place + 1) rdates)
-
 -- a start by a PERIOD that meets the window by its own length
 abbrev pub is_span_met : Clocks → Window → Event → Start → Rdate → Bool
 is_span_met clocks w event s (At time) = false
@@ -110,19 +105,40 @@ span_local start (Lasting duration) = stamp_seconds start.stamp +ℤ pos (durati
 abbrev pub is_over : Window → Time → Length → Bool
 is_over w start length = int_le (stamp_seconds start.stamp) (w.from -ℤ whole_days 6) && int_le (span_local start length) (w.from -ℤ whole_days 6)
 
--- the lesser of an instant and one before which a PERIOD does not begin, unless that is over
-abbrev pub counts_with : Window → ℤ → Rdate → ℤ
-counts_with w least (At time) = least
-counts_with w least (Span start length) = if is_over w start length then least else int_min least (stamp_seconds start.stamp -ℤ whole_days 2)
+-- a PERIOD that is not over begins at this instant
+abbrev pub begins_at : Clocks → Window → ℤ → Rdate → Bool
+begins_at clocks w t (At time) = false
+begins_at clocks w t (Span start length) = not (is_over w start length) && int_eq (instant clocks start) t
 
-abbrev pub counts_by : Window → Time → ℤ → List Rdate → ℤ
-counts_by w first least [] = least
-counts_by w first least (rdate ∷ rdates) = counts_by w first (counts_with w least (given_by first rdate)) rdates
+-- an RDATE of the event gives such a PERIOD
+abbrev pub is_running : Clocks → Window → Event → ℤ → Bool
+is_running clocks w event t = list_any (λ rdate. begins_at clocks w t (given_by event.start rdate)) event.rdates
+
+-- Of the instants before one, these are those at which a PERIOD of the event begins that is not over.
+abbrev pub AreRunning : Clocks → Window → Event → ℤ → List ℤ → Type 0
+AreRunning clocks w event from running = (t : ℤ) → t <ℤ from → is_among running t ≡ is_running clocks w event t
+
+-- an instant is between two others
+abbrev pub is_between : ℤ → ℤ → ℤ → Bool
+is_between from to t = int_lt from t && int_lt t to
+
+-- The start at a time counts, unless its local tells that it is past the window's end or before an instant. If it tells the latter, the start counts if a
+-- PERIOD begins at the time's instant that is not over, since the first source at an instant gives the length.
+abbrev pub counts : Window → ℤ → Time → Bool → Bool
+counts w from time running = if is_early from time then running else not (is_past w time)
+
+-- the starts that count of those that the values of RDATEs give, which are the values from a place on
+abbrev pub listed_from : Clocks → Window → ℤ → Event → ℕ → List Rdate → List Start
+listed_from clocks w from event place [] = []
+listed_from clocks w from event place (rdate ∷ rdates) =
+    let given = given_by event.start rdate in
+    with_front (counts w from (time_of given) (is_running clocks w event (instant clocks (time_of given)))) (start_by clocks (Listed place) given)
+    (listed_from clocks w from event (place + 1) rdates)
 
 -- The instant from which on the starts by RDATEs count: four days before the first at which an event of this length can meet the window, since by the clock
--- it can end as late as if it began so much later, or earlier, where a PERIOD is not over that may begin earlier.
+-- it can end as late as if it began so much later.
 abbrev pub counts_from : Clocks → Window → Event → ℤ
-counts_from clocks w event = counts_by w event.start (first_met clocks w event -ℤ whole_days 4) event.rdates
+counts_from clocks w event = first_met clocks w event -ℤ whole_days 4
 
 -- The instant from which on the rule is read: the first at which an event of this length can meet the window or, if it is earlier, the
 -- earliest start by a PERIOD that meets it, since a local at that instant gives it the event's length.

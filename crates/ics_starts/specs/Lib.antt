@@ -19,5 +19,7 @@ pub mod SingleEvents
 pub mod Starts
 pub mod FileZones
 pub mod RuleMarks
+pub mod Inner
+pub mod KeptLocals
 pub mod Quiet
 pub mod RuleStartLaws

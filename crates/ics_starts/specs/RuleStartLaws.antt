@@ -29,7 +29,7 @@ use Rattle.ics_starts.specs.Starts.{recurrence_of}
 Start-set : (a b : Start) → IsProp (a ≡ b)
 Start-set a b = hlevel (props, codes)
 
-rule-prop : (a b : Option Recurrence) → IsProp (a ≡ b)
+pub rule-prop : (a b : Option Recurrence) → IsProp (a ≡ b)
 rule-prop a b = hlevel (props, codes)
 
 is-held-prop : (clocks : Clocks) (event : Event) (rule : Recurrence) (w : Window) (day : ℤ) (s : Start) → IsProp (IsHeld clocks event rule w day s)
@@ -38,7 +38,7 @@ is-held-prop clocks event rule w day s = hlevel (props, Start-set)
 pub held-prop : (clocks : Clocks) (event : Event) (rule : Recurrence) (w : Window) (day : ℤ) (held : List Start) → IsProp (AreHeld clocks event rule w day held)
 held-prop clocks event rule w day held = Π_prop λ s. Π_prop λ m. is-held-prop clocks event rule w day s
 
-looked-at-prop : (rule : Recurrence) (cursor : Cursor) (a b : ℕ) → IsProp (HasLooked rule cursor a b)
+pub looked-at-prop : (rule : Recurrence) (cursor : Cursor) (a b : ℕ) → IsProp (HasLooked rule cursor a b)
 unfolding HasLooked
 looked-at-prop rule cursor a b = hlevel props
 

@@ -20,9 +20,9 @@ start-in-prop zones s = hlevel (props, rdate-prop, rdate-below-prop)
 pub starts-in-prop : (zones : FileZones) (starts : List Start) → IsProp (AreStartsIn zones starts)
 starts-in-prop zones starts = Π_prop λ s. Π_prop λ m. start-in-prop zones s
 
-pub taken-out-prop : (clocks : Clocks) (event : Event) (w : Window) (from : ℤ) (instants days : List ℤ)
-    → IsProp (AreExclusions clocks event w from instants days)
-taken-out-prop clocks event w from instants days = hlevel props
+pub taken-out-prop : (clocks : Clocks) (event : Event) (w : Window) (from : ℤ) (running instants days : List ℤ)
+    → IsProp (AreExclusions clocks event w from running instants days)
+taken-out-prop clocks event w from running instants days = hlevel props
 
 pub ruled-prop : (clocks : Clocks) (event : Event) (o : Option RuleStarts) (coming : List Entry) → IsProp (HasRuled clocks event o coming)
 ruled-prop clocks event None coming = Unit-prop

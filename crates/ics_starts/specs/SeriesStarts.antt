@@ -31,7 +31,7 @@ use Rattle.ics_starts.specs.Meeting.{entry_from}
 use Rattle.ics_listing.specs.WindowMeeting.{is_met}
 use Rattle.ics_listing.specs.Merged.{cut, union}
 use Rattle.ics_starts.specs.MeetsWindow.{IsEventMet}
-use Rattle.ics_starts.specs.RuleFeed.{is_unsettled, starts_left, HasPassed, HasSameSource, IsAmid, IsDayShown, IsEarlier}
+use Rattle.ics_starts.specs.RuleFeed.{is_unsettled, starts_left, HasPassed, HasSameSource, IsAmid, IsEarlier, IsTakenOut}
 use Rattle.ics_starts.specs.RuleStarts.{found, moment_numbered, steps_left}
 use Rattle.ics_listing.specs.StartTimes.{local_of, time_at}
 use Rattle.ics_starts.specs.Starts.{recurrence_of, IsRuleStart}
@@ -72,9 +72,9 @@ ArePassed P None None = Unit {0}
 ArePassed P (Some old) (Some new) = HasPassed (P old) old new
 ArePassed P _ _ = ⊥
 
--- at all of them the clock of DTSTART shows one of these days
-abbrev pub AreSkipped : List ℤ → Option RuleStarts → Option RuleStarts → Type 0
-AreSkipped days old new = ArePassed (IsDayShown days) old new
+-- these instants and days remove all of them that the rule keeps
+abbrev pub AreSkipped : List ℤ → List ℤ → Option RuleStarts → Option RuleStarts → Type 0
+AreSkipped instants days old new = ArePassed (IsTakenOut instants days) old new
 
 -- all of them mean instants before this one
 abbrev pub AreEnded : ℤ → Option RuleStarts → Option RuleStarts → Type 0
@@ -86,7 +86,7 @@ AreLeapt t u old new = ArePassed (IsAmid t u) old new
 
 -- the starts by RDATEs that count
 abbrev pub listed_of : Clocks → Window → Event → List Start
-listed_of clocks w event = listed_from clocks w (counts_from clocks w event) event.start 0 event.rdates
+listed_of clocks w event = listed_from clocks w (counts_from clocks w event) event 0 event.rdates
 
 -- the starts that are known from the beginning: those by RDATEs and, if there is no rule, the one at DTSTART
 abbrev pub listed_apart : Clocks → Window → Event → Option RuleParts → List Start

@@ -1,14 +1,16 @@
 //! The starts that the EXDATEs of an event remove.
-ghost use Rattle.std.specs.Prelude.{◌≡◌, ◌<ℤ◌, ◌≤ℤ◌, ◌+ℤ◌, ◌||◌, ℤ, not, true, IfOk};
+ghost use Rattle.std.specs.Prelude.{◌≡◌, ◌<ℤ◌, ◌≤ℤ◌, ◌+ℤ◌, ◌||◌, ℤ, true, IfOk};
 ghost use Rattle.std.specs.List.Sorted.{IsSorted};
 ghost use Rattle.std.specs.Ordering.{int_cmp};
 ghost use Rattle.ics_starts.specs.Clocks.{clock_of, instant};
-ghost use Rattle.ics_starts.specs.Exclusions.{excludes, is_among, is_excluded, shown_day, takes_out, with_instant};
-ghost use Rattle.ics_starts.specs.FileZones.{clocks_in, is_outside, IsOwnEvent, IsTimeOf};
+ghost use Rattle.ics_starts.specs.Exclusions.{excludes, is_among, is_excluded, is_known, shown_day, takes_out, with_instant};
+ghost use Rattle.ics_starts.specs.FileZones.{clocks_in, IsOwnEvent, IsTimeOf};
+ghost use Rattle.ics_starts.specs.Found.{counts};
 ghost use Rattle.ics_fields.specs.Locals.{day_of_local};
 ghost use Rattle.ics_listing.specs.WindowBounds.{window_last, occurrence_first};
 
-use crate::instants::{instant, is_at, is_outside};
+use crate::instants::is_at;
+use crate::listed::counted;
 use crate::zones::FileZones;
 use ics_event::{Event, Time};
 use ics_listing::{Window, date_of};
@@ -19,13 +21,15 @@ use std::alloc::{AllocError, Global};
 /// How many removed days are passed over at a time, at most.
 const RUN_DAYS: i32 = 64;
 
-/// The instants that the EXDATEs of an event remove, from one on, and, if the event has date-times, the days that
-/// they remove by the clock of DTSTART. Both are in order.
+/// The instants that the EXDATEs of an event remove, from one on or at which PERIODs that run begin, and, if the event has date-times, the days that
+/// they remove by the clock of DTSTART. All are in order.
 #[derive(Drop)]
 pub(crate) struct Exclusions {
-    pub(crate) from: Moment,
+    from: Moment,
+    running: Vec<Moment>,
     instants: Vec<Moment>,
     days: Vec<i32>,
+    ghost running_rise: { IsSorted int_cmp running.items },
     ghost instants_rise: { IsSorted int_cmp instants.items },
     ghost days_rise: { IsSorted int_cmp days.items },
 }
@@ -37,17 +41,19 @@ impl Exclusions {
     ghost use Rattle.ics_starts.specs.Clocks.{IsBounded, IsStretched};
     ghost use Rattle.ics_starts.specs.Exclusions.{is_day_in, AreExclusions};
 
-    /// What the EXDATEs remove from the starts from an instant on and before the window's end.
+    /// What the EXDATEs remove from the starts before the window's end that are from an instant on, or at one of some in order.
     pub(crate) fn new(
         alloc: Global,
         zones: FileZones<'_>,
         event: &Event,
         window: &Window,
         from: Moment,
+        running: Vec<Moment>,
     ) -> Result<Exclusions, AllocError>
-        requires { IsOwnEvent zones event.now }
+        requires event { IsOwnEvent zones event.now }
+        requires order { IsSorted int_cmp running.items }
         ensures { IfOk result (λ exclusions. AreExclusions (clocks_in zones.entry) event.now window.now
-            exclusions.from exclusions.instants.items exclusions.days.items) }
+            exclusions.from exclusions.running.items exclusions.instants.items exclusions.days.items) }
     {
         let mut instants = Vec::new(alloc);
         let mut days = Vec::new(alloc);
@@ -60,15 +66,24 @@ impl Exclusions {
                 *exdate,
                 window,
                 from,
+                &running,
             )?;
         }
         instants.sort_unstable();
         days.sort_unstable();
         Ok(Exclusions {
             from,
+            running,
             instants,
             days,
         })
+    }
+
+    /// Whether they tell of an instant before the window's end if a start there is removed.
+    pub(crate) fn knows(&self, moment: Moment) -> bool
+        ensures { result ≡ is_known self.now.from self.now.running.items moment }
+    {
+        self.from <= moment || is_among(&self.running, moment)
     }
 
     /// Whether a start at an instant is removed.
@@ -125,7 +140,7 @@ impl Exclusions {
 
     /// The end of the locals from one on at which a clock shows a removed day in a stretch: it shows each of them at its own instant, unless it
     /// skips them.
-    fn skips_in(&self, next: Moment, stretch: Stretch) -> Moment
+    pub(crate) fn skips_in(&self, next: Moment, stretch: Stretch) -> Moment
         requires next { IsBetween (year_seconds 0) (year_seconds 10_000) next }
         requires offset { IsWithin 93_599 stretch.offset }
         requires shown { IsWithin 93_599 stretch.shown }
@@ -156,6 +171,13 @@ impl Exclusions {
         let shown = self.skips_in(next, stretch);
         shown.max(self.skips_by(next, bounds))
     }
+
+    /// Whether an instant is removed by itself.
+    pub(crate) fn has_instant(&self, moment: Moment) -> bool
+        ensures { result ≡ is_among self.now.instants.items moment }
+    {
+        is_among(&self.instants, moment)
+    }
 }
 
 /// Whether an instant is one of a list in order.
@@ -176,37 +198,43 @@ fn push_exdate(
     exdate: Time,
     window: &Window,
     from: Moment,
+    running: &[Moment],
 ) -> Result<(), AllocError>
-    requires { IsTimeOf zones.zones.now exdate }
+    requires time { IsTimeOf zones.zones.now exdate }
+    requires order { IsSorted int_cmp running.now }
     ensures only { IfOk result (λ _. (t : ℤ) → let clocks = clocks_in zones.entry in
         takes_out (clock_of clocks first) instants.new.items days.new.items t ≡ true
         → (takes_out (clock_of clocks first) instants.old.items days.old.items t || excludes clocks first exdate t) ≡ true) }
-    ensures same { IfOk result (λ _. (t : ℤ) → from ≤ℤ t → t <ℤ window.now.to → let clocks = clocks_in zones.entry in
+    ensures same { IfOk result (λ _. (t : ℤ) → is_known from running.now t ≡ true → t <ℤ window.now.to → let clocks = clocks_in zones.entry in
         takes_out (clock_of clocks first) instants.new.items days.new.items t
         ≡ (takes_out (clock_of clocks first) instants.old.items days.old.items t || excludes clocks first exdate t)) }
 {
     match (first.stamp, exdate.stamp) {
-        (Stamp::Date(_), _) => push_instant(instants, zones, date_of(exdate), window, from)?,
+        (Stamp::Date(_), _) => {
+            push_instant(instants, zones, date_of(exdate), window, from, running)?
+        }
         (_, Stamp::Date(day)) => days.push(day)?,
-        _ => push_instant(instants, zones, exdate, window, from)?,
+        _ => push_instant(instants, zones, exdate, window, from, running)?,
     }
     Ok(())
 }
 
-/// Adds the instant of a time, unless its local tells that it is before another, or past the window's end.
+/// Adds the instant of a time, if it counts: unless its local tells that it is past the window's end, or before an instant and at none of some.
 fn push_instant(
     instants: &mut Vec<Moment>,
     zones: FileZones<'_>,
     time: Time,
     window: &Window,
     from: Moment,
+    running: &[Moment],
 ) -> Result<(), AllocError>
-    requires { IsTimeOf zones.zones.now time }
-    ensures { IfOk result (λ _. instants.new.items
-        ≡ with_instant (not (is_outside window.now from time)) instants.old.items (instant (clocks_in zones.entry) time)) }
+    requires time { IsTimeOf zones.zones.now time }
+    requires order { IsSorted int_cmp running.now }
+    ensures { IfOk result (λ _. let t = instant (clocks_in zones.entry) time in
+        instants.new.items ≡ with_instant (counts window.now from time (is_among running.now t)) instants.old.items t) }
 {
-    if !is_outside(time, window, from) {
-        instants.push(instant(zones, time))?;
+    if let Some(moment) = counted(zones, time, window, from, running) {
+        instants.push(moment)?;
     }
     Ok(())
 }
@@ -218,25 +246,26 @@ pub(crate) fn is_excluded(zones: FileZones<'_>, event: &Event, moment: Moment) -
     requires early { moment <ℤ window_last }
     ensures { result ≡ is_excluded (clocks_in zones.entry) event.now moment }
 {
+    let day = shown_day(zones, event.start, moment);
     for exdate in &event.exdates {
-        if excludes(zones, event.start, *exdate, moment) {
+        if excludes(zones, event.start, *exdate, moment, day) {
             return true;
         }
     }
     false
 }
 
-/// Whether an EXDATE removes a start at an instant from an event with this DTSTART.
-fn excludes(zones: FileZones<'_>, first: Time, exdate: Time, moment: Moment) -> bool
-    requires first { IsTimeOf zones.zones.now first }
+/// Whether an EXDATE removes a start at an instant from an event with this DTSTART, whose clock shows this day there.
+fn excludes(zones: FileZones<'_>, first: Time, exdate: Time, moment: Moment, day: i32) -> bool
     requires exdate { IsTimeOf zones.zones.now exdate }
     requires late { occurrence_first ≤ℤ moment }
     requires early { moment <ℤ window_last }
+    requires day { day ≡ shown_day (clock_of (clocks_in zones) first) moment }
     ensures { result ≡ excludes (clocks_in zones.entry) first exdate moment }
 {
     match (first.stamp, exdate.stamp) {
         (Stamp::Date(_), _) => is_at(zones, date_of(exdate), moment),
-        (_, Stamp::Date(day)) => day == shown_day(zones, first, moment),
+        (_, Stamp::Date(removed)) => removed == day,
         _ => is_at(zones, exdate, moment),
     }
 }

@@ -49,16 +49,14 @@ pub(crate) fn bounds(zones: FileZones<'_>, time: Time) -> Bounds
     }
 }
 
-/// A stretch of locals about one, given by its seconds, that the clock of a time shows by one offset. There is none for a date: of its days no
-/// local but midnight counts.
+/// A stretch of locals about one, given by its seconds, that the clock of a time shows by one offset.
 pub(crate) fn stretch(zones: FileZones<'_>, time: Time, local: Moment) -> Stretch
     requires time { IsTimeOf zones.zones.now time }
     requires local { IsMoment local }
     ensures { IsStretched (clock_of (clocks_in zones.entry) time) result }
 {
     match time.stamp {
-        Stamp::Date(_) => Stretch::none(),
-        Stamp::Floating(_) => zones.display.stretch(local),
+        Stamp::Date(_) | Stamp::Floating(_) => zones.display.stretch(local),
         Stamp::Utc(_) => Stretch {
             from: Moment::MIN,
             to: Moment::MAX,

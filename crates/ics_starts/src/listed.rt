@@ -1,22 +1,32 @@
 //! The starts that RDATEs give.
-ghost use Rattle.std.specs.Prelude.{◌≡◌, ◌≤ℤ◌, ◌-ℤ◌, ◌++◌, IfOk};
-ghost use Rattle.ics_event.specs.Event.{IsEvent, IsRdate, IsSpan};
+ghost use Rattle.std.specs.Prelude.{◌≡◌, ◌≤ℤ◌, ◌<ℤ◌, ◌-ℤ◌, ◌||◌, ◌++◌, ℤ, if◌then◌else◌, IfOk, None, Some};
+ghost use Rattle.std.specs.List.{list_any};
+ghost use Rattle.std.specs.List.Sorted.{IsSorted};
+ghost use Rattle.std.specs.Ordering.{int_cmp};
+ghost use Rattle.ics_event.specs.Event.{IsRdate, IsSpan};
 ghost use Rattle.ics_fields.specs.Locals.{whole_days};
-ghost use Rattle.ics_starts.specs.Found.{counts_by, counts_with, is_over, listed_from, span_local};
+ghost use Rattle.ics_starts.specs.Clocks.{instant};
+ghost use Rattle.ics_starts.specs.Exclusions.{is_among};
+ghost use Rattle.ics_starts.specs.Found.{begins_at, counts, is_between, is_over, listed_from, span_local, AreRunning};
 ghost use Rattle.ics_starts.specs.Quiet.{AreListedAgain, IsAgain};
 ghost use Rattle.ics_starts.specs.Starts.{given_by};
 ghost use Rattle.ics_starts.specs.FileZones.{clocks_in, IsOwnEvent, IsTimeOf};
+ghost use Rattle.ics_listing.specs.StartTimes.{time_of};
 ghost use Rattle.ics_listing.specs.WindowBounds.{lasts_most, occurrence_first};
 
+use crate::exclusion::is_among;
 use crate::instants::{TWO_DAYS, instant, is_early, is_outside};
 use crate::starts::FOUR_DAYS;
 use crate::zones::FileZones;
 use ics_event::{Event, Length, Rdate, Time};
 use ics_listing::{Start, StartSource, Window, date_of, local_of, time_at, time_of};
 use ics_values::{Local, Moment, Stamp};
-use std::alloc::AllocError;
+use std::alloc::{AllocError, Global};
 
 const DAY: i64 = 86_400;
+
+/// So many instants or fewer are a few.
+const FEW: usize = 16;
 
 /// The local at which a PERIOD that begins at a time is to end, if each day has 86,400 seconds.
 fn span_local(start: Time, length: Length) -> Moment
@@ -42,57 +52,145 @@ fn is_over(start: Time, length: Length, window: &Window) -> bool
     local_of(start.stamp).seconds() <= by && span_local(start, length) <= by
 }
 
-/// The lesser of an instant and one before which a PERIOD does not begin, unless that is over.
-fn counts_with(window: &Window, least: Moment, given: Rdate) -> Moment
-    requires { IsRdate given }
-    ensures { result ≡ counts_with window.now least given }
+/// The instant from which on the starts by the RDATEs of an event count: four days before the first at which an event of its length can meet the
+/// window, which is given.
+pub(crate) fn counts_from(met: Moment) -> Moment
+    requires { (occurrence_first -ℤ lasts_most) ≤ℤ met }
+    ensures { result ≡ (met -ℤ whole_days 4) }
 {
-    match given {
-        Rdate::At(_) => least,
-        Rdate::Span(start, length) => {
-            if is_over(start, length, window) {
-                least
-            } else {
-                least.min(local_of(start.stamp).seconds() - TWO_DAYS)
-            }
+    met - FOUR_DAYS
+}
+
+/// Adds the instant at which a PERIOD begins, if it is not over and can begin before an instant.
+fn push_running(
+    running: &mut Vec<Moment>,
+    zones: FileZones<'_>,
+    given: Rdate,
+    window: &Window,
+    from: Moment,
+) -> Result<(), AllocError>
+    requires value { IsRdate given }
+    requires time { IsTimeOf zones.zones.now (time_of given) }
+    ensures { IfOk result (λ _. (t : ℤ) → t <ℤ from → is_among running.new.items t
+        ≡ (is_among running.old.items t || begins_at (clocks_in zones.entry) window.now t given)) }
+{
+    if let Rdate::Span(start, length) = given {
+        let begun = local_of(start.stamp).seconds() - TWO_DAYS < from;
+        if begun && !is_over(start, length, window) {
+            running.push(instant(zones, start))?;
         }
     }
+    Ok(())
 }
 
-/// The instant from which on the starts by the RDATEs of an event count: four days before the first at which an event of this length can meet the
-/// window, which is given, or earlier, where a PERIOD is not over that may begin earlier.
-pub(crate) fn counts_from(event: &Event, window: &Window, met: Moment) -> Moment
-    requires event { IsEvent event.now }
-    requires late { (occurrence_first -ℤ lasts_most) ≤ℤ met }
-    ensures { result ≡ counts_by window.now event.now.start (met -ℤ whole_days 4) event.now.rdates }
+/// The instants before one at which PERIODs of an event begin that are not over, in order. There may be others, which are not before it.
+pub(crate) fn running(
+    alloc: Global,
+    zones: FileZones<'_>,
+    event: &Event,
+    window: &Window,
+    from: Moment,
+) -> Result<Vec<Moment>, AllocError>
+    requires { IsOwnEvent zones event.now }
+    ensures order { IfOk result (λ running. IsSorted int_cmp running.items) }
+    ensures are { IfOk result (λ running. AreRunning (clocks_in zones.entry) window.now event.now from running.items) }
 {
-    let mut least = met - FOUR_DAYS;
+    let mut running = Vec::new(alloc);
     for rdate in &event.rdates {
-        least = counts_with(window, least, given_by(event.start, *rdate));
+        push_running(
+            &mut running,
+            zones,
+            given_by(event.start, *rdate),
+            window,
+            from,
+        )?;
     }
-    least
+    running.sort_unstable();
+    Ok(running)
 }
 
-/// Adds the starts that the RDATEs of an event give, but for those whose locals tell that they are past the window's end, or before the instant
-/// from which on they count.
+/// Whether an instant is between two others.
+fn is_between(moment: Moment, from: Moment, to: Moment) -> bool
+    ensures { result ≡ is_between from to moment }
+{
+    (from < moment) & (moment < to)
+}
+
+/// Whether one of some instants is between two others.
+fn any_between(instants: &[Moment], from: Moment, to: Moment) -> bool
+    ensures { result ≡ list_any (is_between from to) instants.now }
+{
+    instants.iter().any(|moment| is_between(*moment, from, to))
+}
+
+/// The instant of a time, if it is one of those of a list in order. No zone is asked, if the time's local tells that it is none of a few.
+#[inline]
+fn among(zones: FileZones<'_>, time: Time, instants: &[Moment]) -> Option<Moment>
+    requires time { IsTimeOf zones.zones.now time }
+    requires order { IsSorted int_cmp instants.now }
+    ensures { result ≡ (let t = instant (clocks_in zones.entry) time in if is_among instants.now t then Some t else None) }
+{
+    if instants.is_empty() {
+        return None;
+    }
+    let local = local_of(time.stamp).seconds();
+    if instants.len() <= FEW && !any_between(instants, local - TWO_DAYS, local + TWO_DAYS) {
+        return None;
+    }
+    let moment = instant(zones, time);
+    if is_among(instants, moment) {
+        Some(moment)
+    } else {
+        None
+    }
+}
+
+/// The instant of a time at which an RDATE starts an event, or an EXDATE removes a start, if that counts: unless its local tells that it is past the
+/// window's end, or before an instant and at none of those at which PERIODs begin that are not over.
+#[inline(always)]
+pub(crate) fn counted(
+    zones: FileZones<'_>,
+    time: Time,
+    window: &Window,
+    from: Moment,
+    running: &[Moment],
+) -> Option<Moment>
+    requires time { IsTimeOf zones.zones.now time }
+    requires order { IsSorted int_cmp running.now }
+    ensures { result ≡ (let t = instant (clocks_in zones.entry) time in
+        if counts window.now from time (is_among running.now t) then Some t else None) }
+{
+    if is_early(time, from) {
+        return among(zones, time, running);
+    }
+    if is_outside(time, window, from) {
+        return None;
+    }
+    Some(instant(zones, time))
+}
+
+/// Adds the starts that the RDATEs of an event give and that count, from an instant on.
 pub(crate) fn push_listed(
     starts: &mut Vec<Start>,
     zones: FileZones<'_>,
     event: &Event,
     window: &Window,
     from: Moment,
+    running: &[Moment],
 ) -> Result<(), AllocError>
-    requires { IsOwnEvent zones event.now }
+    requires event { IsOwnEvent zones event.now }
+    requires order { IsSorted int_cmp running.now }
+    requires running { AreRunning (clocks_in zones) window.now event.now from running.now }
     ensures { IfOk result (λ _. starts.new.items
-        ≡ starts.old.items ++ listed_from (clocks_in zones.entry) window.now from event.now.start 0 event.now.rdates) }
+        ≡ starts.old.items ++ listed_from (clocks_in zones.entry) window.now from event.now 0 event.now.rdates) }
 {
     for (place, rdate) in event.rdates.iter().enumerate() {
         let given = given_by(event.start, *rdate);
-        if is_outside(time_of(given), window, from) {
+        let Some(moment) = counted(zones, time_of(given), window, from, running) else {
             continue;
-        }
+        };
         starts.push(Start {
-            moment: instant(zones, time_of(given)),
+            moment,
             source: StartSource::Listed(place),
             given,
         })?;

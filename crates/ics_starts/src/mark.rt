@@ -19,7 +19,8 @@ pub struct Mark {
 }
 
 impl Mark {
-    /// The cursor, moved on to a midnight.
+    /// The cursor, moved on to a midnight. Of the locals before it only those of the last minute are read, so that those before are counted
+    /// by whole periods.
     fn moved_to(self, rule: &Rule, from: Local) -> Cursor
         requires mark { IsCountMark rule.now self }
         requires day { IsDayNumber from.day }
@@ -29,6 +30,7 @@ impl Mark {
         ensures { IsBegun rule.now from result }
     {
         let mut cursor = self.cursor;
+        cursor.pass(rule, Local::numbered(from.number().saturating_sub(60)));
         loop {
             match cursor.next(rule, from) {
                 None => return cursor,

@@ -10,6 +10,7 @@ ghost use Rattle.ics_listing.specs.StartOrder.{moment_cmp};
 ghost use Rattle.ics_listing.specs.FileClocks.{Clock, Clocks};
 ghost use Rattle.ics_starts.specs.Found.{start_at};
 ghost use Rattle.ics_starts.specs.RuleMarks.{IsBegun};
+ghost use Rattle.ics_starts.specs.KeptLocals.{kept-of-prop, IsKeptOf};
 ghost use Rattle.ics_starts.specs.Quiet.{beyond-prop, AreBeyond};
 ghost use Rattle.ics_listing.specs.Rising.{Rises, Rises-prop};
 ghost use Rattle.ics_starts.specs.Clocks.{clock_of, instant, AreSpansOf, IsBounded, IsStretched};
@@ -24,6 +25,7 @@ ghost use Rattle.ics_period.specs.PeriodNumbers.{rules_end};
 
 use crate::exclusion::Exclusions;
 use crate::instants::{bounds, instant_in, is_in, no_stretch, stretch_by};
+use crate::kept_locals::{KeptLocals, ended, known_next, leave, next};
 use crate::listed::lesser_past;
 use crate::mark::{Mark, begun};
 use crate::starts::{end_nearby, is_until};
@@ -38,6 +40,9 @@ use std::alloc::{AllocError, Global};
 /// Kept locals that are nearer to one another than these seconds are worth a stretch.
 const CLOSE: i64 = 3_600;
 
+/// The number of the local 1970-01-01T00:00:00.
+const EPOCH: i64 = 62_167_219_200;
+
 /// How many seconds pass before the clock is asked anew, where it tells no stretch.
 const MINUTE: i64 = 60;
 
@@ -50,11 +55,15 @@ pub(crate) struct RuleStarts<'a> {
     event: &'a Event,
     window: Window,
     rule: Rule,
+    /// What is known of the rule by the searches of the days before.
+    kept: Option<Box<KeptLocals<'a>>>,
     /// Two offsets between which the clock of DTSTART stays.
     bounds: Bounds,
     /// The local at which the cursor began.
     from: Local,
     cursor: Cursor,
+    /// The number of its place.
+    place: u64,
     day: i32,
     /// No period was looked at for a local from this day on. It is `day` or, while that is read, the next.
     asked: i32,
@@ -79,6 +88,8 @@ pub(crate) struct RuleStarts<'a> {
     ghost spanned: { AreSpansOf (clock_of (clocks_in zones) event.now.start) spans },
     ghost own: { IsCursorOf rule cursor } by { cursor-prop rule cursor },
     ghost looked: { HasLookedTo rule from asked cursor } by { looked-prop rule from asked cursor },
+    ghost placed: { place ≡ place_of cursor },
+    ghost known: { IsKeptOf event.now kept } by { kept-of-prop event.now kept },
     ghost reached: { IsReadTo day asked end next (place_of cursor) } by { read-to-prop day asked end next (place_of cursor) },
     ghost early: { midnight_number end ≤ rules_end },
 }
@@ -221,7 +232,8 @@ impl<'a> RuleStarts<'a> {
     ghost use Rattle.ics_listing.specs.Listing.{IsIn};
     ghost use Rattle.ics_listing.specs.Merged.{cut};
     ghost use Rattle.ics_starts.specs.RuleFeed.{held_in, is_unsettled, settled_in, starts_left, HasEnded, HasLeapt, HasSameSource, HasSkipped};
-    ghost use Rattle.ics_starts.specs.RuleFeed.{IsAmid, IsEarlier, IsPast};
+    ghost use Rattle.ics_starts.specs.RuleFeed.{AreTakenOut, HasStayed, IsAmid, IsEarlier, IsPast};
+    ghost use Rattle.ics_fields.specs.Locals.{local_seconds};
     ghost use Rattle.ics_starts.specs.RuleStarts.{found, is_ready, steps_left, to_come};
     ghost use Rattle.ics_starts.specs.FileZones.{IsOwnEvent};
     ghost use Rattle.ics_starts.specs.RuleMarks.{IsCountMark};
@@ -236,7 +248,9 @@ impl<'a> RuleStarts<'a> {
         rule: Rule,
         from: Local,
         mark: Option<Mark>,
+        kept: Option<Box<KeptLocals<'a>>>,
     ) -> Self
+        requires kept { IsKeptOf event.now kept }
         requires event { IsOwnEvent zones event.now }
         requires rule { recurrence_of event.now ≡ Some rule }
         requires from { IsDayNumber from.day }
@@ -259,9 +273,11 @@ impl<'a> RuleStarts<'a> {
             event,
             window,
             rule,
+            kept,
             bounds,
             from,
             cursor: begun,
+            place: from.number(),
             day,
             asked: day,
             end,
@@ -347,10 +363,11 @@ impl<'a> RuleStarts<'a> {
         let to = Local::at(bound, 0);
         // The cursor moves only once its local is held, so that none is lost.
         let mut cursor = self.cursor;
-        match cursor.next(&self.rule, to) {
+        match next(&mut self.kept, &mut cursor, self.place, &self.rule, to) {
             None => {
                 let midnight = to.seconds();
                 self.cursor = cursor;
+                self.place = self.place.max(to.number());
                 self.day = bound;
                 self.asked = bound;
                 self.next = midnight;
@@ -373,6 +390,7 @@ impl<'a> RuleStarts<'a> {
                 let waiting = Waiting { moment, local };
                 hold(&mut self.held, event, &self.rule, self.window, waiting)?;
                 self.cursor = cursor;
+                self.place = local.number() + 1;
                 self.day = local.day;
                 self.asked = local.day + 1;
                 self.next = seconds + 1;
@@ -409,6 +427,7 @@ impl<'a> RuleStarts<'a> {
         let last = past.min(end);
         if self.next < last {
             self.cursor.pass(&self.rule, Local::of_seconds(last));
+            self.place = self.place.max((last + EPOCH) as u64);
             self.next = last;
         }
     }
@@ -480,18 +499,119 @@ impl<'a> RuleStarts<'a> {
         let last = to.min(end);
         if self.next < last {
             self.cursor.pass(&self.rule, Local::of_seconds(last));
+            self.place = self.place.max((last + EPOCH) as u64);
             self.next = last;
         }
     }
 
-    /// Passes over the next locals, if at all of them the clock shows a removed day. None of them is read.
-    pub(crate) fn skip(&mut self, exclusions: &Exclusions)
-        ensures { HasSkipped exclusions.now.days.items self.old self.new }
+    /// The end, in seconds, of the locals from one on at which the clock shows a removed day. Of dates no day is removed, but the instant of
+    /// its midnight.
+    fn removed_days(&self, exclusions: &Exclusions, from: Moment) -> Moment
+        requires { IsBetween (year_seconds 0) (year_seconds 10_000) from }
+        ensures { AreTakenOut exclusions.now.instants.items exclusions.now.days.items self.now from result }
     {
-        if !self.is_behind() {
+        let event = self.event;
+        match event.start.stamp {
+            Stamp::Date(_) => from,
+            _ => exclusions.skips(from, self.bounds, self.stretch),
+        }
+    }
+
+    /// The same by a stretch about the first of them, for which the clock is asked.
+    fn removed_day(&mut self, exclusions: &Exclusions, local: Moment) -> Moment
+        requires moment { IsMoment local }
+        requires years { IsBetween (year_seconds 0) (year_seconds 10_000) local }
+        ensures removed { AreTakenOut exclusions.now.instants.items exclusions.now.days.items self.old local result }
+        ensures same { HasStayed self.old self.new }
+    {
+        let event = self.event;
+        let asks = self.stretch.to <= local;
+        self.stretch = stretch_at(
+            self.zones,
+            event.start,
+            self.stretch,
+            &mut self.spans,
+            local,
+            asks,
+        );
+        match event.start.stamp {
+            Stamp::Date(_) => local,
+            _ => exclusions.skips_in(local, self.stretch),
+        }
+    }
+
+    /// The end, in seconds, of the locals from one on whose starts EXDATEs remove: of those on removed days or, if only the start of the first is
+    /// removed, of this one. If that is not removed, its own seconds.
+    fn removed_at(&mut self, exclusions: &Exclusions, local: Local) -> Moment
+        requires day { IsDayNumber local.day }
+        requires early { local.day <ℤ self.old.end }
+        requires kept { is_kept self.old.rule (number local) ≡ true }
+        ensures removed { AreTakenOut exclusions.now.instants.items exclusions.now.days.items self.old (local_seconds local) result }
+        ensures same { HasStayed self.old self.new }
+    {
+        let seconds = local.seconds();
+        let event = self.event;
+        let to = self.removed_day(exclusions, seconds);
+        if seconds < to {
+            return to;
+        }
+        let moment = instant_in(self.zones, self.stretch, time_at(event.start, local));
+        if exclusions.has_instant(moment) {
+            seconds + 1
+        } else {
+            seconds
+        }
+    }
+
+    /// The end, in seconds, of the locals from one on of which EXDATEs remove all that the rule keeps: where the next one that it keeps is known,
+    /// from that on, else of those on removed days.
+    fn removed_from(&mut self, exclusions: &Exclusions, from: Moment) -> Moment
+        requires { IsBetween (year_seconds 0) (year_seconds 10_000) from }
+        ensures removed { AreTakenOut exclusions.now.instants.items exclusions.now.days.items self.old from result }
+        ensures same { HasStayed self.old self.new }
+    {
+        match known_next(&mut self.kept, &self.rule, (from + EPOCH) as u64) {
+            None => self.removed_days(exclusions, from),
+            Some(local) => {
+                if self.end <= local.day {
+                    return from;
+                }
+                let to = self.removed_at(exclusions, local);
+                if to <= local.seconds() {
+                    return from;
+                }
+                leave(&mut self.kept);
+                to
+            }
+        }
+    }
+
+    /// The end, in seconds, of the next locals of which EXDATEs remove all that the rule keeps, as far as this is known.
+    fn removed_to(&mut self, exclusions: &Exclusions) -> Moment
+        ensures removed { AreTakenOut exclusions.now.instants.items exclusions.now.days.items self.old self.old.next result }
+        ensures same { HasStayed self.old self.new }
+    {
+        let end = Local::at(self.end, 0).seconds();
+        let mut to = self.next;
+        while to < end {
+            let next = self.removed_from(exclusions, to).min(end);
+            if next <= to {
+                break;
+            }
+            to = next;
+        }
+        to
+    }
+
+    /// Passes over the next locals, if EXDATEs remove all of them that the rule keeps. None of them is read.
+    pub(crate) fn skip(&mut self, exclusions: &Exclusions)
+        ensures { HasSkipped exclusions.now.instants.items exclusions.now.days.items self.old self.new }
+    {
+        let event = self.event;
+        if event.exdates.is_empty() || !self.is_behind() {
             return;
         }
-        let to = exclusions.skips(self.next, self.bounds, self.stretch);
+        let to = self.removed_to(exclusions);
         self.pass_to(to);
     }
 
@@ -598,6 +718,14 @@ impl<'a> RuleStarts<'a> {
             from: self.from,
             cursor: self.cursor,
         }
+    }
+
+    /// Gives back what is known of the rule, also by this search.
+    pub(crate) fn into_kept(self) -> Option<Box<KeptLocals<'a>>>
+        ensures { IsKeptOf self.entry.event.now result }
+    {
+        let RuleStarts { kept, .. } = self;
+        ended(kept)
     }
 
     /// How many starts are held.

@@ -1,5 +1,7 @@
 //! The occurrences of one event that meet a window, found one by one.
 ghost use Rattle.std.specs.Prelude.{◌≡◌, ◌<◌, ◌≤ℤ◌, ◌-ℤ◌, pos, false, slice_get, true, All, IfOk, IfSome, List, MatchOption, None};
+ghost use Rattle.std.specs.List.Sorted.{IsSorted};
+ghost use Rattle.std.specs.Ordering.{int_cmp};
 ghost use Rattle.ics_event.specs.Event.{IsLasting};
 ghost use Rattle.ics_fields.specs.Locals.{number, year_seconds};
 ghost use Rattle.ics_listing.specs.Entry.{entry_cmp};
@@ -8,9 +10,10 @@ ghost use Rattle.ics_starts.specs.Exclusions.{is_excluded, AreExclusions};
 ghost use Rattle.ics_listing.specs.StartOrder.{moment_cmp};
 ghost use Rattle.ics_starts.specs.Clocks.{clock_of, AreSpansOf, IsStretched};
 ghost use Rattle.ics_starts.specs.Finish.{AreLasting};
-ghost use Rattle.ics_starts.specs.Found.{first_met, IsStartIn};
+ghost use Rattle.ics_starts.specs.Found.{counts_from, first_met, AreRunning, IsStartIn};
 ghost use Rattle.ics_listing.specs.FileClocks.{Clock};
 ghost use Rattle.ics_listing.specs.Listing.{IsIn};
+ghost use Rattle.ics_starts.specs.KeptLocals.{IsKeptOf};
 ghost use Rattle.ics_starts.specs.RuleMarks.{IsBegun, IsMarkOf};
 ghost use Rattle.ics_starts.specs.Quiet.{AreQuiet};
 ghost use Rattle.ics_listing.specs.Merged.{cut};
@@ -28,21 +31,20 @@ ghost use Rattle.ics_listing.specs.declared.start.Start.{Start};
 use crate::ends::Ends;
 use crate::exclusion::{Exclusions, is_excluded};
 use crate::instants::{bounds, no_stretch};
+use crate::kept_locals::KeptLocals;
 use crate::kind::kind_of;
 use crate::lasting::lasting_by;
-use crate::listed::{counts_from, listed_again, push_listed};
+use crate::listed::{counts_from, listed_again, push_listed, running};
 use crate::mark::{Mark, counted};
 use crate::occurrence::met_by;
 use crate::replaced::Replaced;
 use crate::rule_starts::RuleStarts;
-use crate::starts::{
-    FOUR_DAYS, earliest, first_given, first_met, first_nearby, seconds_back, start_at,
-};
+use crate::starts::{earliest, first_given, first_met, first_nearby, seconds_back, start_at};
 use crate::zones::FileZones;
 use ics_event::Event;
 use ics_listing::{Begins, Coming, Feed, ListedStarts, Occurrence, Start, Window, local_of};
 use ics_rule::Rule;
-use ics_values::{Duration, Moment, Stamp};
+use ics_values::{Duration, Moment};
 use ics_zone::Stretch;
 use std::alloc::{AllocError, Global};
 
@@ -64,8 +66,9 @@ pub struct Series<'a> {
     ghost first_is: { IfSome first (IsFirstGiven (clocks_in zones) window event.now since) } by { first-given-prop (clocks_in zones) window event.now since
         first },
     ghost own: { IsOwnEvent zones event.now } by { own-event-prop zones event.now },
-    ghost taken_out: { AreExclusions (clocks_in zones) event.now window exclusions.from exclusions.instants.items exclusions.days.items } by { taken-out-prop
-        (clocks_in zones) event.now window exclusions.from exclusions.instants.items exclusions.days.items },
+    ghost taken_out: { AreExclusions (clocks_in zones) event.now window exclusions.from exclusions.running.items exclusions.instants.items
+        exclusions.days.items } by { taken-out-prop (clocks_in zones) event.now window exclusions.from exclusions.running.items exclusions.instants.items
+            exclusions.days.items },
     ghost ends_are: { AreSpansOf (clock_of (clocks_in zones) event.now.start) ends.spans },
     ghost known: { AreStartsIn zones (left rule_starts listed) } by { starts-in-prop zones (left rule_starts listed) },
     // A start that the rule hides may come to light.
@@ -88,24 +91,20 @@ fn listed_apart(
     zones: FileZones<'_>,
     event: &Event,
     window: &Window,
-    met: Moment,
+    from: Moment,
+    running: &[Moment],
 ) -> Result<Vec<Start>, AllocError>
     requires event { IsOwnEvent zones event.now }
-    requires met { met ≡ first_met (clocks_in zones) window.now event.now }
-    requires late { (occurrence_first -ℤ lasts_most) ≤ℤ met }
+    requires from { from ≡ counts_from (clocks_in zones) window.now event.now }
+    requires order { IsSorted int_cmp running.now }
+    requires running { AreRunning (clocks_in zones) window.now event.now from running.now }
     ensures { IfOk result (λ starts. starts.items ≡ listed_apart (clocks_in zones.entry) window.now event.now event.now.rule) }
 {
     let mut starts = Vec::new(alloc);
     if event.rule.is_none() {
         starts.push(start_at(zones, event, local_of(event.start.stamp)))?;
     }
-    push_listed(
-        &mut starts,
-        zones,
-        event,
-        window,
-        counts_from(event, window, met),
-    )?;
+    push_listed(&mut starts, zones, event, window, from, running)?;
     Ok(starts)
 }
 
@@ -120,6 +119,7 @@ fn starts_by_rule<'a>(
     met: Moment,
     listed: &[Start],
     mark: Option<Mark>,
+    kept: Option<Box<KeptLocals<'a>>>,
 ) -> Option<RuleStarts<'a>>
     requires event { IsOwnEvent zones event.now }
     requires met { met ≡ first_met (clocks_in zones) window event.now }
@@ -127,6 +127,7 @@ fn starts_by_rule<'a>(
     requires early { met ≤ℤ window.from }
     requires listed { All (IsStartIn zones) listed.now }
     requires mark { IsMarkOf event.now mark }
+    requires kept { IsKeptOf event.now kept }
     ensures own { HasOwnRule zones.entry event.entry.now window (first_asked (clocks_in zones.entry) window event.entry.now since listed.entry.now) result }
     ensures from { MatchOption result (event.entry.now.rule ≡ None)
         (λ starts. IsRuleFrom (clocks_in zones.entry) event.entry.now window since listed.entry.now (starts_left starts)) }
@@ -147,7 +148,7 @@ fn starts_by_rule<'a>(
         earliest.max(since.min(late)),
     );
     let mark = counted(parts, mark);
-    Some(RuleStarts::new(alloc, zones, event, window, rule, from, mark))
+    Some(RuleStarts::new(alloc, zones, event, window, rule, from, mark, kept))
 }
 
 /// Reads up to the next local of a rule, if the first of the starts that it still gives is not known. Whether it was not.
@@ -194,9 +195,9 @@ fn pass_rule(rule: &mut Option<RuleStarts<'_>>, start: &Start)
     }
 }
 
-/// Passes over the next locals of a rule, if the clock shows a removed day at all of them.
+/// Passes over the next locals of a rule, if EXDATEs remove all of them that it keeps.
 fn skip_rule(rule: &mut Option<RuleStarts<'_>>, exclusions: &Exclusions)
-    ensures { AreSkipped exclusions.now.days.items rule.old rule.new }
+    ensures { AreSkipped exclusions.now.instants.items exclusions.now.days.items rule.old rule.new }
 {
     if let Some(starts) = rule {
         starts.skip(exclusions);
@@ -310,10 +311,12 @@ impl<'a> Series<'a> {
         window: Window,
         since: Moment,
         mark: Option<Mark>,
+        kept: Option<Box<KeptLocals<'a>>>,
         replaced: Replaced,
     ) -> Result<Series<'a>, AllocError>
         requires own { IsOwnEvent zones event.now }
         requires mark { IsMarkOf event.now mark }
+        requires kept { IsKeptOf event.now kept }
         ensures listing { IfOk result (λ series. IsListing entry_cmp
             (IsSeriesMet (clocks_in zones.entry) event.entry.now window since replaced.instants.items)
             (⟦<Series<'a> as Coming>⟧.coming series)) }
@@ -321,9 +324,13 @@ impl<'a> Series<'a> {
         ensures begun { IfOk result (λ series. MatchOption series.rule_starts (Unit {0}) (λ s. IsBegun s.rule s.from s.cursor)) }
     {
         let met = first_met(zones, event, &window);
-        let exclusions = Exclusions::new(alloc, zones, event, &window, met - FOUR_DAYS)?;
-        let listed = listed_apart(alloc, zones, event, &window, met)?;
-        let rule_starts = starts_by_rule(alloc, zones, event, window, since, met, &listed, mark);
+        let from = counts_from(met);
+        let running = running(alloc, zones, event, &window, from)?;
+        let listed = listed_apart(alloc, zones, event, &window, from, &running)?;
+        let exclusions = Exclusions::new(alloc, zones, event, &window, from, running)?;
+        let rule_starts = starts_by_rule(
+            alloc, zones, event, window, since, met, &listed, mark, kept,
+        );
         Ok(Series {
             zones,
             event,
@@ -536,32 +543,27 @@ impl<'a> Series<'a> {
         pass_rule_between(&mut self.rule_starts, from, over.min(listed));
     }
 
-    /// Passes over locals at which the clock shows a removed day.
+    /// Passes over locals whose starts EXDATEs remove.
     fn skip_removed(&mut self)
         ensures coming { series_of self.new (series_left self.new) ≡ series_of self.old (series_left self.old) }
         ensures fewer { length (series_left self.new) ≤ length (series_left self.old) }
         ensures same { IsSameSeries self.old self.new }
         ensures steps { rule_steps self.new.rule_starts ≤ rule_steps self.old.rule_starts }
     {
-        // Of dates no day is removed, but the instant of its midnight.
-        let event = self.event;
-        match event.start.stamp {
-            Stamp::Date(_) => {}
-            _ => skip_rule(&mut self.rule_starts, &self.exclusions),
-        }
+        skip_rule(&mut self.rule_starts, &self.exclusions);
     }
 
-    /// Whether an EXDATE removes a start at an instant. Where this is not known, a PERIOD that began long ago meets the window.
+    /// Whether an EXDATE removes a start at an instant. This is known of those that can give an occurrence.
     fn is_removed(&self, moment: Moment) -> bool
         requires late { occurrence_first ≤ℤ moment }
         requires early { moment <ℤ self.now.window.to }
         ensures { result ≡ is_excluded (clocks_in self.now.zones) self.now.event.now moment }
     {
         let (zones, event) = (self.zones, self.event);
-        if moment < self.exclusions.from {
-            is_excluded(zones, event, moment)
-        } else {
+        if self.exclusions.knows(moment) {
             self.exclusions.has(zones, event.start, moment)
+        } else {
+            is_excluded(zones, event, moment)
         }
     }
 
@@ -612,6 +614,17 @@ impl<'a> Series<'a> {
         match &self.rule_starts {
             None => None,
             Some(starts) => Some(starts.mark()),
+        }
+    }
+
+    /// Gives back what is known of its rule, also by its search.
+    pub fn into_kept(self) -> Option<Box<KeptLocals<'a>>>
+        ensures { IsKeptOf self.entry.event.now result }
+    {
+        let Series { rule_starts, .. } = self;
+        match rule_starts {
+            None => None,
+            Some(starts) => starts.into_kept(),
         }
     }
 

@@ -17,10 +17,10 @@ returns-in_ok-push_instant-in-Date-default c =
     let same = λ (t : ℤ). ap (λ (x : Time). before t || int_eq (instant clocks x) t) c.date_of.ensures
     ∙ ap (λ (s : Stamp). before t || excludes_by clocks c.args.first s c.args.exdate t) (sym c.in-Date-default.is-0) in
     record {
-      only = λ t out. sym (same t) ∙ pushed-only c.args.zones c.args.window.now c.args.from (clock_of clocks c.args.first) c.args.instants.now.items
-          c.args.days.now.items c.date_of.result t pushed out;
-      same = λ t on early. pushed-instant c.args.zones c.args.window.now c.args.from (clock_of clocks c.args.first) c.args.instants.now.items
-          c.args.days.now.items c.date_of.result on early pushed ∙ same t;
+      only = λ t out. sym (same t) ∙ pushed-only c.args.zones c.args.window.now c.args.from c.args.running.now (clock_of clocks c.args.first)
+          c.args.instants.now.items c.args.days.now.items c.date_of.result t pushed out;
+      same = λ t known early. pushed-instant c.args.zones c.args.window.now c.args.from c.args.running.now (clock_of clocks c.args.first)
+          c.args.instants.now.items c.args.days.now.items c.date_of.result known early pushed ∙ same t;
     }
 
 pub returns-in_ok-push_instant-in_default : goal.returns-in_ok-push_instant-in_default
@@ -30,10 +30,10 @@ returns-in_ok-push_instant-in_default c =
     let same = λ (t : ℤ). ap (λ b. takes_out (clock_of clocks c.args.first) c.args.instants.now.items c.args.days.now.items t || b)
     (sym (excludes-instant clocks c.args.first c.args.exdate c.args.first.stamp t c.in_default.not-Date-0 c.in_default.not-Date-1)) in
     record {
-      only = λ t out. sym (same t) ∙ pushed-only c.args.zones c.args.window.now c.args.from (clock_of clocks c.args.first) c.args.instants.now.items
-          c.args.days.now.items c.args.exdate t pushed out;
-      same = λ t on early. pushed-instant c.args.zones c.args.window.now c.args.from (clock_of clocks c.args.first) c.args.instants.now.items
-          c.args.days.now.items c.args.exdate on early pushed ∙ same t;
+      only = λ t out. sym (same t) ∙ pushed-only c.args.zones c.args.window.now c.args.from c.args.running.now (clock_of clocks c.args.first)
+          c.args.instants.now.items c.args.days.now.items c.args.exdate t pushed out;
+      same = λ t known early. pushed-instant c.args.zones c.args.window.now c.args.from c.args.running.now (clock_of clocks c.args.first)
+          c.args.instants.now.items c.args.days.now.items c.args.exdate known early pushed ∙ same t;
     }
 
 pub returns-in_ok-push-in_default-Date : goal.returns-in_ok-push-in_default-Date
@@ -49,4 +49,4 @@ returns-in_ok-push-in_default-Date c =
     let same = λ (t : ℤ). ap (λ xs. takes_out clock instants xs t) pushed ∙ (pushed-day clock instants days day t
     ∙ ap (λ b. takes_out clock instants days t || b)
     (sym (excludes-day clocks c.args.first c.args.exdate c.args.first.stamp day t c.in_default-Date.not-Date-0 c.in_default-Date.is-1))) in
-    record { only = λ t out. sym (same t) ∙ out; same = λ t on early. same t }
+    record { only = λ t out. sym (same t) ∙ out; same = λ t known early. same t }

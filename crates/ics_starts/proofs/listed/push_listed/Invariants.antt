@@ -6,5 +6,5 @@ use Rattle.ics_starts.proofs.listed.push_listed.Given as goal
 -- what the values from this one on give is still to be added
 abbrev pub invariant-loop-place : goal.invariant-loop-place
 invariant-loop-place l =
-    l.starts.items ++ listed_from (clocks_in l.zones) l.window l.from l.event.start l.place (drop l.place l.event.rdates)
-    ≡ l.initial.starts.items ++ listed_from (clocks_in l.zones) l.window l.from l.event.start 0 l.event.rdates
+    l.starts.items ++ listed_from (clocks_in l.zones) l.window l.from l.event l.place (drop l.place l.event.rdates)
+    ≡ l.initial.starts.items ++ listed_from (clocks_in l.zones) l.window l.from l.event 0 l.event.rdates

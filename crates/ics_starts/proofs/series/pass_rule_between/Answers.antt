@@ -1,4 +1,4 @@
-use Rattle.std.proofs.Common.{◌≡◌, Some, subst, sym, w64}
+use Rattle.std.proofs.Common.{Some, subst, sym, w64}
 use Rattle.std.proofs.lemmas.Int.{to_z-of_z}
 use Rattle.ics_starts.specs.SeriesStarts.{AreLeapt}
 use Rattle.ics_starts.proofs.series.pass_rule_between.Goals as goal

@@ -1,12 +1,11 @@
-use Rattle.std.proofs.Common.{◌≡◌, ◌+◌, ◌<◌, ◌≤◌, ◌||◌, ℤ, List, length, get_or, take, true, sym, ◌∙◌, ap, subst, arith}
+use Rattle.std.proofs.Common.{◌≡◌, ◌+◌, ◌<◌, ◌≤◌, ◌||◌, ℤ, List, length, get_or, take, true, sym, ◌∙◌, ap, subst, w64, to_z, of_z}
 use Rattle.std.specs.List.{list_any}
-use Rattle.std.proofs.lemmas.Int.{ints}
 use Rattle.std.proofs.lemmas.List.{take_all}
 use Rattle.std.proofs.lemmas.List.Folds.{list_any_more}
 use Rattle.ics_event.specs.declared.event.Event.{Event}
 use Rattle.ics_event.specs.Event.{Time}
 use Rattle.ics_starts.specs.Clocks.{clock_of}
-use Rattle.ics_starts.specs.Exclusions.{excludes, takes_out}
+use Rattle.ics_starts.specs.Exclusions.{excludes, is_known, takes_out}
 use Rattle.ics_starts.specs.FileZones.{clocks_in}
 use Rattle.ics_starts.proofs.ExclusionLemmas.{or-more, sorted-takes_out}
 use Rattle.ics_starts.proofs.exclusion.Exclusions.new.Goals as goal
@@ -30,11 +29,12 @@ loop-exdate-preserved c =
           (subst (λ (v : Event). (takes_out (clock_of clocks v.start) c.loop-exdate.instants.items c.loop-exdate.days.items t
           || excludes clocks v.start x t) ≡ true) c.event.view_is (c.in_ok-push_exdate.ensures.only t (subst (λ (v : Event).
           takes_out (clock_of clocks v.start) c.push_exdate.new.instants.items c.push_exdate.new.days.items t ≡ true) (sym c.event.view_is) out)));
-      same = λ t on early.
+      same = λ t known early.
           subst (λ (v : Event). takes_out (clock_of clocks v.start) c.push_exdate.new.instants.items c.push_exdate.new.days.items t
           ≡ (takes_out (clock_of clocks v.start) c.loop-exdate.instants.items c.loop-exdate.days.items t || excludes clocks v.start x t))
-          c.event.view_is (c.in_ok-push_exdate.ensures.same t (omega (arith, ints, on, c.ranges.from)) early)
-          ∙ (ap (λ b. b || excludes clocks event.start x t) (c.loop-exdate.invariant.same t on early) ∙ more t);
+          c.event.view_is (c.in_ok-push_exdate.ensures.same t
+          (ap (λ xs. is_known (to_z w64 (of_z w64 c.args.from)) xs t) c.deref.ensures.value ∙ known) early)
+          ∙ (ap (λ b. b || excludes clocks event.start x t) (c.loop-exdate.invariant.same t known early) ∙ more t);
     }
 
 pub returns : goal.returns
@@ -48,5 +48,5 @@ returns c =
     let all = λ (t : ℤ). ap (λ (xs : List Time). list_any (λ e. excludes clocks event.start e t) xs) (take_all k event.exdates over) in
     record {
       only = λ t out. sym (all t) ∙ c.loop-exdate.invariant.only t (sym (sorted t) ∙ out);
-      same = λ t on early. sorted t ∙ (c.loop-exdate.invariant.same t (omega (arith, ints, on, c.ranges.from)) early ∙ all t);
+      same = λ t known early. sorted t ∙ (c.loop-exdate.invariant.same t known early ∙ all t);
     }

@@ -1,7 +1,7 @@
-use Rattle.std.proofs.Common.{◌≡◌, ℤ, ◌<ℤ◌, ◌≤ℤ◌, take, true}
+use Rattle.std.proofs.Common.{◌≡◌, ℤ, ◌<ℤ◌, take, true}
 use Rattle.std.specs.List.{list_any}
 use Rattle.ics_starts.specs.Clocks.{clock_of}
-use Rattle.ics_starts.specs.Exclusions.{excludes, takes_out}
+use Rattle.ics_starts.specs.Exclusions.{excludes, is_known, takes_out}
 use Rattle.ics_starts.specs.FileZones.{clocks_in}
 use Rattle.ics_starts.proofs.exclusion.Exclusions.new.Given as goal
 
@@ -12,6 +12,7 @@ invariant-loop-exdate l = record {
       (t : ℤ) → takes_out (clock_of (clocks_in l.zones) l.event.start) l.instants.items l.days.items t ≡ true
       → list_any (λ exdate. excludes (clocks_in l.zones) l.event.start exdate t) (take l.exdate-index l.event.exdates) ≡ true;
   same :
-      (t : ℤ) → l.from ≤ℤ t → t <ℤ l.window.to → takes_out (clock_of (clocks_in l.zones) l.event.start) l.instants.items l.days.items t
+      (t : ℤ) → is_known l.from l.running.items t ≡ true → t <ℤ l.window.to → takes_out (clock_of (clocks_in l.zones) l.event.start) l.instants.items
+      l.days.items t
       ≡ list_any (λ exdate. excludes (clocks_in l.zones) l.event.start exdate t) (take l.exdate-index l.event.exdates);
 }

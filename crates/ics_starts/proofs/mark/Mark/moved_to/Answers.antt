@@ -8,10 +8,13 @@ use Rattle.ics_starts.proofs.mark.Mark.moved_to.Goals as goal
 pub loop-cursor-init : goal.loop-cursor-init
 loop-cursor-init c =
     let mark = c.requires.mark in
+    let last = c.numbered.ensures.value in
     record {
-      own = mark.begun.own;
-      place = omega (arith, mark.begun.place, c.requires.later);
-      looked = λ before h. mark.begun.looked before (omega (arith, midnight-number c.args.self.from mark.begun.day, c.requires.later, h));
+      own = c.pass.ensures.own;
+      place = omega (arith, c.pass.ensures.place, mark.begun.place, last, c.requires.later);
+      looked = λ before h.
+          c.pass.ensures.looked _ before
+          (mark.begun.looked before (omega (arith, midnight-number c.args.self.from mark.begun.day, c.requires.later, h)));
     }
 
 pub next-requires-clause-own : goal.next-requires-clause-own

@@ -26,6 +26,8 @@ invariant_of-self c =
       spanned = s.spanned;
       own = s.own;
       looked = s.looked;
+      placed = s.placed;
+      known = s.known;
       reached = s.reached;
       early = s.early;
     }

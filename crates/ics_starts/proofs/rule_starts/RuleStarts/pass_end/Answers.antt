@@ -1,8 +1,7 @@
-use Rattle.std.proofs.Common.{◌≡◌, ◌≤◌, ◌<ℤ◌, ◌≤ℤ◌, ◌∙◌, ℕ, ℤ, false, refl, ap, w32, w64, to_z, of_z, arith}
+use Rattle.std.proofs.Common.{◌≡◌, ◌≤◌, ◌<ℤ◌, ◌≤ℤ◌, ◌∙◌, ℕ, ℤ, false, refl, ap, w64, to_z, of_z, arith}
 use Rattle.std.proofs.lemmas.Int.{int_min_is, ints}
 use Rattle.ics_fields.specs.Days.{IsDayNumber}
-use Rattle.ics_fields.specs.Locals.{day_of_local, local_at, local_seconds, midnight, number}
-use Rattle.ics_fields.specs.declared.local.Local.{Local}
+use Rattle.ics_fields.specs.Locals.{day_of_local, local_seconds, midnight, number}
 use Rattle.ics_listing.proofs.NearLemmas.{day-under}
 use Rattle.ics_listing.proofs.StartOrderLemmas.{number-seconds}
 use Rattle.ics_rule.specs.Cursors.{place_of}
@@ -14,7 +13,7 @@ use Rattle.ics_period.specs.PeriodNumbers.{rules_end}
 use Rattle.ics_starts.proofs.PassedLemmas.{by-test}
 use Rattle.ics_starts.proofs.QuietLemmas.{beyond-past}
 use Rattle.ics_starts.proofs.RuleDayLemmas.{come-skipped, given-parts, number-day}
-use Rattle.ics_starts.proofs.RuleStepLemmas.{day-back, end-days, next-years}
+use Rattle.ics_starts.proofs.RuleStepLemmas.{end-back, end-days, next-years}
 use Rattle.ics_starts.proofs.rule_starts.RuleStarts.pass_end.Goals as goal
 
 -- a local past the window's end gives nothing
@@ -22,10 +21,6 @@ none-given : (s : RuleStarts) (n : ℕ) {u : ℤ} → IsPast s.window.to u s n �
 none-given s n past =
     by-test (gives (clocks_in s.zones) s.event.now s.rule s.window n)
     (λ g. let early = (given-parts s.zones s.event.now s.rule s.window n g).2 in absurd (omega (arith, ints, early, past.first))) (λ e. e)
-
--- the midnight of the end, as it is read back
-end-back : (s : RuleStarts) {at : Local} {seconds : ℤ} → at ≡ local_at (to_z w32 (of_z w32 s.end)) 0 → seconds ≡ local_seconds at → seconds ≡ midnight s.end
-end-back s is e = let there = ap (λ (l : Local). local_seconds l) is in omega (arith, ints, e, there, day-back s.end (end-days s))
 
 -- a local after the next one and before the end is of the years 0000 to 9999
 ended-day : (s : RuleStarts) {last day : ℤ} → s.next <ℤ last → last ≤ℤ midnight s.end → day ≡ day_of_local last → IsDayNumber day
@@ -50,6 +45,11 @@ pass-requires-clause-day c =
     ended-day s (omega (arith, ints, c.if-self-last.true, next-years s)) (omega (arith, ints, int_min_is, last.ensures.value, last.type_inv, end, end-days s))
     c.of_seconds.ensures.day
 
+pub overflow_cast-last : goal.overflow_cast-last
+overflow_cast-last c =
+    let s = c.args.self.now in
+    omega (arith, ints, c.if-self-last.true, next-years s)
+
 pub invariant_of-self : goal.invariant_of-self
 invariant_of-self c =
     let s = c.args.self.now in
@@ -73,6 +73,8 @@ invariant_of-self c =
       spanned = s.spanned;
       own = c.pass.ensures.own;
       looked = λ before m. c.pass.ensures.looked _ before (s.looked before m);
+      placed = omega (arith, ints, s.placed, place, at, seconds, c.max-self.ensures);
+      known = s.known;
       reached = record {
         read = omega (arith, s.reached.read, place);
         next_read = omega (arith, ints, s.reached.next_read, place, at, seconds);
@@ -95,7 +97,7 @@ returns-then-self-last c =
     let before : to_z w64 (of_z w64 c.min-last.result) ≤ℤ c.past_end-past.result =
     omega (arith, ints, int_min_is, last.ensures.value, last.type_inv, past.type_inv) in
     let early : to_z w64 (of_z w64 c.min-last.result) ≤ℤ midnight s.end =
-    omega (arith, ints, int_min_is, last.ensures.value, last.type_inv, end, end-days s) in
+    omega (arith, ints, int_min_is c.past_end-past.result c.seconds-end.result, last.ensures.value, last.type_inv, end) in
     let at = number-seconds c.of_seconds.result (ended-day s later early c.of_seconds.ensures.day) in
     let seconds : local_seconds c.of_seconds.result ≡ to_z w64 (of_z w64 c.min-last.result) = c.of_seconds.ensures.value in
     let place = c.pass.ensures.place in

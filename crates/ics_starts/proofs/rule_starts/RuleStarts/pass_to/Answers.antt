@@ -1,6 +1,7 @@
-use Rattle.std.proofs.Common.{◌≡◌, ◌+ℤ◌, ◌<ℤ◌, ◌≤ℤ◌, pos, refl, arith, w64, to_z, of_z, SFits}
+use lib.IntN.{nat_abs}
+use Rattle.std.proofs.Common.{◌≡◌, ◌∙◌, ◌+ℤ◌, ◌-ℤ◌, ◌<ℤ◌, ◌≤ℤ◌, ℕ, ℤ, max, pos, refl, sym, arith, w64, to_z, of_z, SFits}
 use Rattle.std.proofs.lemmas.Int.{int_min_is, ints}
-use Rattle.ics_fields.specs.Locals.{local_seconds}
+use Rattle.ics_fields.specs.Locals.{local_seconds, number}
 use Rattle.ics_starts.specs.declared.rule_starts.RuleStarts.{RuleStarts}
 use Rattle.ics_starts.proofs.QuietLemmas.{beyond-passed}
 use Rattle.ics_starts.proofs.RuleStepLemmas.{next-years, passed-day}
@@ -10,6 +11,11 @@ use Rattle.ics_starts.proofs.rule_starts.RuleStarts.pass_to.Goals as goal
 -- the window's end, as it is read back
 window-back : (s : RuleStarts) → to_z w64 (of_z w64 s.window.to) ≡ s.window.to
 window-back s = omega (arith, ints, s.window.ordered, s.window.not_early, s.window.not_late)
+
+-- the number of a local, by its seconds
+number-back : (at : ℤ) (n : ℕ) → (pos 0 -ℤ pos 62_167_219_200) ≤ℤ at → at ≤ℤ pos 1_000_000_000_000 → pos n ≡ at +ℤ pos 62_167_219_200
+    → nat_abs (to_z w64 (of_z w64 (at +ℤ pos 62_167_219_200))) ≡ n
+number-back at n low high e = omega (arith, ints, low, high, e)
 
 pub end_before-end-requires : goal.end_before-end-requires
 end_before-end-requires c =
@@ -36,6 +42,11 @@ pass-requires-clause-day c =
     passed-day s (omega (arith, ints, c.if-self-last.true, next-years s))
     (omega (arith, ints, int_min_is, last.ensures.value, last.type_inv, end.type_inv, end.ensures.near, window-back s)) c.of_seconds.ensures.day
 
+pub overflow_cast-last : goal.overflow_cast-last
+overflow_cast-last c =
+    let s = c.args.self.now in
+    omega (arith, ints, c.if-self-last.true, next-years s)
+
 pub invariant_of-self : goal.invariant_of-self
 invariant_of-self c =
     let s = c.args.self.now in
@@ -49,6 +60,9 @@ invariant_of-self c =
     let at = number-seconds c.of_seconds.result day in
     let seconds : local_seconds c.of_seconds.result ≡ to_z w64 (of_z w64 c.min-last.result) = c.of_seconds.ensures.value in
     let place = c.pass.ensures.place in
+    let low : (pos 0 -ℤ pos 62_167_219_200) ≤ℤ to_z w64 (of_z w64 c.min-last.result) = omega (arith, ints, later, next-years s) in
+    let high : to_z w64 (of_z w64 c.min-last.result) ≤ℤ pos 1_000_000_000_000 = omega (arith, ints, early, s.window.not_late) in
+    let there : pos (number c.of_seconds.result) ≡ to_z w64 (of_z w64 c.min-last.result) +ℤ pos 62_167_219_200 = omega (arith, ints, at, seconds) in
     record {
       rule_of = s.rule_of;
       rises = s.rises;
@@ -61,6 +75,9 @@ invariant_of-self c =
       spanned = s.spanned;
       own = c.pass.ensures.own;
       looked = λ before m. c.pass.ensures.looked _ before (s.looked before m);
+      placed = c.max-self.ensures ∙ ((λ i. max (s.placed i) (number-back (to_z w64 (of_z w64 c.min-last.result)) (number c.of_seconds.result) low high there i))
+          ∙ sym place);
+      known = s.known;
       reached = record {
         read = omega (arith, s.reached.read, place);
         next_read = omega (arith, ints, s.reached.next_read, place, at, seconds);

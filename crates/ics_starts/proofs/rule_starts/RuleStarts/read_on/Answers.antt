@@ -9,20 +9,17 @@ use Rattle.ics_starts.specs.Clocks.{clock_of, instant, AreSpansOf, IsStretched}
 use Rattle.ics_starts.specs.RuleStarts.{AreHeld}
 use Rattle.ics_starts.specs.declared.rule_starts.RuleStarts.{RuleStarts}
 use Rattle.ics_zone.specs.declared.spans.Spans.{Spans}
-use Rattle.ics_zone.specs.declared.stretch.Stretch.{Stretch}
 use Rattle.ics_starts.specs.FileZones.{clocks_in, IsTimeOf}
 use Rattle.ics_starts.specs.RuleFeed.{held_in}
 use Rattle.ics_listing.specs.Waiting.{starts_in}
 use Rattle.ics_starts.proofs.QuietLemmas.{beyond-none, beyond-one}
-use Rattle.ics_starts.proofs.RuleStepLemmas.{bound-days, bound-early, none-read, one-moment, one-read, one-time}
+use Rattle.ics_starts.proofs.RuleStepLemmas.{bound-days, bound-early, none-read, one-moment, one-read, one-time, told-known}
 use Rattle.ics_starts.proofs.StretchLemmas.{stretched-at}
+use Rattle.ics_starts.proofs.KeptLemmas.{kept-rule, kept-same}
+use Rattle.ics_fields.specs.Locals.{number}
 use Rattle.ics_starts.proofs.rule_starts.RuleStarts.read_on.Goals as goal
 
--- what is known of the clock of an event as it is seen is known of that of the event
-told-known : (s : RuleStarts) {v : Event} {stretch : Stretch} → v ≡ s.event.now → IsStretched (clock_of (clocks_in s.zones) v.start) stretch
-    → IsStretched (clock_of (clocks_in s.zones) s.event.now.start) stretch
-told-known s {stretch = stretch} is h = subst (λ (v : Event). IsStretched (clock_of (clocks_in s.zones) v.start) stretch) is h
-
+-- what is kept of the clock of an event as it is seen is that of the event
 spans-known : (s : RuleStarts) {v : Event} (spans : Option Spans) → v ≡ s.event.now → AreSpansOf (clock_of (clocks_in s.zones) v.start) spans
     → AreSpansOf (clock_of (clocks_in s.zones) s.event.now.start) spans
 spans-known s spans is h = subst (λ (v : Event). AreSpansOf (clock_of (clocks_in s.zones) v.start) spans) is h
@@ -40,9 +37,19 @@ invariant_of-self-in-Break-1 c =
       spanned = spans-known s _ c.event.view_is c.stretch_at-self.ensures.spans;
       own = s.own;
       looked = s.looked;
+      placed = s.placed;
+      known = kept-same s.event.now s.kept _ c.next.ensures.same s.known;
       reached = s.reached;
       early = s.early;
     }
+
+pub next-requires-clause-kept : goal.next-requires-clause-kept
+next-requires-clause-kept c =
+    let s = c.args.self.now in
+    kept-rule s.event.now s.rule s.kept s.rule_of.of s.known
+
+pub next-requires-clause-place : goal.next-requires-clause-place
+next-requires-clause-place c = c.args.self.now.placed
 
 pub next-requires-clause-bound : goal.next-requires-clause-bound
 next-requires-clause-bound c =
@@ -67,8 +74,35 @@ invariant_of-self c =
       stretched = s.stretched;
       spanned = s.spanned;
       own = c.in-None.ensures.own;
-      looked = λ before m. c.in-None.ensures.looked _ before (omega (arith, r.before, m)) (s.looked before (omega (arith, r.before, m)));
+      looked = λ before m.
+          c.in-None.ensures.looked (number s.from) before (omega (arith, r.before, m)) (s.looked before (omega (arith, r.before, m)));
+      placed = omega (arith, s.placed, c.in-None.ensures.next.1, c.number.ensures.value, c.max-self.ensures);
+      known = kept-same s.event.now s.kept _ c.next.ensures.same s.known;
       reached = r.reached;
+      early = s.early;
+    }
+
+pub number-requires : goal.number-requires
+number-requires c =
+    let b = c.bound-bound in
+    bound-days c.args.self.now b.type_inv b.ensures.later b.ensures.within c.at-to.ensures
+
+-- what is kept of the rule may know more
+pub invariant_of-self-in-Some-1 : goal.invariant_of-self-in-Some-1
+invariant_of-self-in-Some-1 c =
+    let s = c.args.self.now in
+    record {
+      rule_of = s.rule_of;
+      rises = s.rises;
+      are = s.are;
+      past_end = s.past_end;
+      stretched = s.stretched;
+      spanned = s.spanned;
+      own = s.own;
+      looked = s.looked;
+      placed = s.placed;
+      known = kept-same s.event.now s.kept _ c.next.ensures.same s.known;
+      reached = s.reached;
       early = s.early;
     }
 
@@ -130,7 +164,10 @@ invariant_of-self-in-Some c =
       stretched = told-known s c.event.view_is c.stretch_at-self.ensures.stretch;
       spanned = spans-known s _ c.event.view_is c.stretch_at-self.ensures.spans;
       own = c.in-Some.ensures.own;
-      looked = λ before m. c.in-Some.ensures.looked _ before (omega (arith, r.before, m)) (s.looked before (omega (arith, r.before, m)));
+      looked = λ before m.
+          c.in-Some.ensures.looked (number s.from) before (omega (arith, r.before, m)) (s.looked before (omega (arith, r.before, m)));
+      placed = omega (arith, c.in-Some.ensures.next.1, c.number-in-Some.ensures.value);
+      known = kept-same s.event.now s.kept _ c.next.ensures.same s.known;
       reached = r.reached;
       early = s.early;
     }

@@ -64,7 +64,7 @@ module _ (zones : FileZones) (w : Window) (event : Event) where
   -- What is known from the first.
   start-listed : (s : Start) → IsIn s (listed_of clocks w event) → IsStart clocks event s
   start-listed s m =
-      let k = listed-in clocks w (counts_from clocks w event) event.start 0 event.rdates s m in
+      let k = listed-in clocks w (counts_from clocks w event) event 0 event.rdates s m in
       rw k.is (record { gives = (k.rdate, subst (λ i. slice_get event.rdates i ≡ Some k.rdate) (omega arith) k.stands, refl); moment = refl })
 
   start-apart : (o : Option RuleParts) (s : Start) → IsIn s (listed_apart clocks w event o) → IsStart clocks event s
@@ -233,10 +233,10 @@ pub starts_by_rule-rule_starts-requires-clause-listed : goal.starts_by_rule-rule
 starts_by_rule-rule_starts-requires-clause-listed c =
     let event = c.args.event.now in
     λ k d l.
-    let s : Start = get_or c.deref.result.now k d in
-    let there : IsIn s c.deref.result.now = in-contains s c.deref.result.now (Contains-get_or c.deref.result.now k d l) in
+    let s : Start = get_or c.deref-2.result.now k d in
+    let there : IsIn s c.deref-2.result.now = in-contains s c.deref-2.result.now (Contains-get_or c.deref-2.result.now k d l) in
     start-in c.args.zones c.args.window event c.requires.own s
-    (start-apart c.args.zones c.args.window event event.rule s (subst (IsIn s) (c.deref.ensures.value ∙ c.in_ok-listed.ensures) there))
+    (start-apart c.args.zones c.args.window event event.rule s (subst (IsIn s) (c.deref-2.ensures.value ∙ c.in_ok-listed.ensures) there))
 
 pub invariant_of-result : goal.invariant_of-result
 invariant_of-result c =
@@ -247,7 +247,7 @@ invariant_of-result c =
     let since : to_z w64 (of_z w64 c.args.since) ≡ c.args.since = omega (arith, ints) in
     let sound = c.requires.own.is_event in
     let firsts = rw c.in_ok-listed.ensures at c.in_ok-new.ensures in
-    let ruled = rw (since, c.deref.ensures.value ∙ c.in_ok-listed.ensures) at c.starts_by_rule-rule_starts.ensures.from in
+    let ruled = rw (since, c.deref-2.ensures.value ∙ c.in_ok-listed.ensures) at c.starts_by_rule-rule_starts.ensures.from in
     let starts = starts-since c.args.zones w event sound c.args.since (listed_left c.in_ok-new.field-0) firsts c.starts_by_rule-rule_starts.result ruled in
     let listing = series-listing clocks w event c.args.since c.args.replaced.instants.items
     (left c.starts_by_rule-rule_starts.result c.in_ok-new.field-0) starts in
@@ -262,7 +262,7 @@ invariant_of-result c =
           (has-ruled c.args.zones w event sound c.args.since c.args.replaced.instants.items c.starts_by_rule-rule_starts.result
           (given_of clocks w event c.args.since c.args.replaced.instants.items (left c.starts_by_rule-rule_starts.result c.in_ok-new.field-0)) ruled listing);
       own_rule = subst (λ xs. HasOwnRule c.args.zones event w (first_asked clocks w event (to_z w64 (of_z w64 c.args.since)) xs)
-          c.starts_by_rule-rule_starts.result) (c.deref.ensures.value ∙ c.in_ok-listed.ensures) c.starts_by_rule-rule_starts.ensures.own;
+          c.starts_by_rule-rule_starts.result) (c.deref-2.ensures.value ∙ c.in_ok-listed.ensures) c.starts_by_rule-rule_starts.ensures.own;
       rising = rw since listing.rises;
     }
 
@@ -275,7 +275,7 @@ returns c =
     let since : to_z w64 (of_z w64 c.args.since) ≡ c.args.since = omega (arith, ints) in
     let sound = c.requires.own.is_event in
     let firsts = rw c.in_ok-listed.ensures at c.in_ok-new.ensures in
-    let ruled = rw (since, c.deref.ensures.value ∙ c.in_ok-listed.ensures) at c.starts_by_rule-rule_starts.ensures.from in
+    let ruled = rw (since, c.deref-2.ensures.value ∙ c.in_ok-listed.ensures) at c.starts_by_rule-rule_starts.ensures.from in
     let starts = starts-since c.args.zones w event sound c.args.since (listed_left c.in_ok-new.field-0) firsts c.starts_by_rule-rule_starts.result ruled in
     record {
       listing = rw since

@@ -6,13 +6,12 @@ use Rattle.ics_starts.specs.SeriesStarts.{first_of}
 use Rattle.ics_starts.proofs.PassedLemmas.{passed}
 use Rattle.ics_starts.proofs.RemovedLemmas.{removed-test}
 use Rattle.ics_starts.proofs.SeriesLemmas.{own-rule-same}
-use Rattle.ics_starts.proofs.SettledLemmas.{no-date}
 use Rattle.ics_starts.proofs.series.Series.skip_removed.Goals as goal
 
 pub invariant_of-self : goal.invariant_of-self
 invariant_of-self c =
     let s = c.args.self.now in
-    let k = passed s (removed-test s (no-date c.event.view_is c.in_default.not-Date)) c.skip_rule.new.rule c.skip_rule.ensures in
+    let k = passed s (removed-test s) c.skip_rule.new.rule c.skip_rule.ensures in
     record {
       first_is = s.first_is;
       own = s.own;
@@ -26,10 +25,10 @@ invariant_of-self c =
       rising = subst (Rises entry_cmp) (sym k.coming) s.rising;
     }
 
-pub returns-in_default : goal.returns-in_default
-returns-in_default c =
+pub returns : goal.returns
+returns c =
     let s = c.args.self.now in
-    let k = passed s (removed-test s (no-date c.event.view_is c.in_default.not-Date)) c.skip_rule.new.rule c.skip_rule.ensures in
+    let k = passed s (removed-test s) c.skip_rule.new.rule c.skip_rule.ensures in
     record {
       coming = k.coming;
       fewer = k.fewer;

@@ -1,0 +1,3 @@
+-- Words of private contracts and of proofs: no public clause reaches them.
+pub mod Finds
+pub mod KeptFinds

@@ -1,0 +1,429 @@
+//! The locals that searches of a rule have found, so that a later search need not look for them again.
+ghost use Rattle.std.specs.Prelude.{◌≡◌, ◌<◌, ◌≤◌, Some, MatchOption, IfSome, slice_get};
+ghost use Rattle.std.specs.Option.{option_map};
+ghost use Rattle.ics_fields.specs.Days.{IsDayNumber};
+ghost use Rattle.ics_fields.specs.Locals.{number};
+ghost use Rattle.ics_period.specs.PeriodNumbers.{rules_end};
+ghost use Rattle.ics_period.specs.Recurrence.{Recurrence};
+ghost use Rattle.ics_rule.specs.Calls.{IsAnswer};
+ghost use Rattle.ics_rule.specs.Cursors.{known_to, place_of, IsCursorOf};
+ghost use Rattle.ics_starts.specs.Inner.Finds.{IsCounting, IsNextLocal, IsStep, LooksOn};
+ghost use Rattle.ics_starts.specs.Inner.KeptFinds.{counting-prop, finds-prop, AreFinds, HasCounting, IsFind};
+ghost use Rattle.ics_starts.specs.RuleStartLaws.{rule-prop};
+ghost use Rattle.ics_starts.specs.Starts.{recurrence_of};
+
+use crate::kind::kind_of;
+use crate::lasting::day_of;
+use crate::placed_cursor::PlacedCursor;
+use ics_event::{Event, Length, Rdate, Time};
+use ics_listing::local_of;
+use ics_rule::{Cursor, Rule};
+use ics_values::Local;
+use std::alloc::Global;
+use std::mem;
+
+/// At most so many finds are kept.
+const MOST: usize = 1_024;
+
+/// The finds of an event or a PERIOD that lasts so many days or longer are worth their place.
+const LONG: u64 = 4;
+
+/// What is known of the locals from one on and before another, given by their numbers: the rule keeps the last of them and
+/// no other, if that is given, and else none.
+#[derive(Clone, Copy)]
+struct Find {
+    from: u64,
+    to: u64,
+    local: Option<Local>,
+}
+
+/// The locals that searches of the rule of an event have found. A search follows what the one before it has found, and finds the rest.
+#[derive(Drop)]
+pub struct KeptLocals<'a> {
+    event: &'a Event,
+    /// Where its owner keeps them.
+    place: usize,
+    rule: Rule,
+    /// What the searches before have found, in the order of the locals.
+    known: Vec<Find>,
+    /// The first of these that this search has not passed.
+    at: usize,
+    /// What this search has passed and found.
+    found: Vec<Find>,
+    /// Under COUNT, the cursor that went furthest.
+    counting: Option<PlacedCursor>,
+    ghost of: { recurrence_of event.now ≡ Some rule } by { rule-prop (recurrence_of event.now) (Some rule) },
+    ghost known_are: { AreFinds rule known.items } by { finds-prop rule known.items },
+    ghost found_are: { AreFinds rule found.items } by { finds-prop rule found.items },
+    ghost counts: { HasCounting rule counting } by { counting-prop rule counting },
+}
+
+/// Whether an event or one of its PERIODs lasts so long that many days are searched for its starts again.
+fn is_long(event: &Event) -> bool {
+    is_long_from(event.start, event.length) || event.rdates.iter().any(|rdate| is_long_span(*rdate))
+}
+
+/// Whether a value of an RDATE is a PERIOD that lasts so long.
+fn is_long_span(rdate: Rdate) -> bool {
+    match rdate {
+        Rdate::At(_) => false,
+        Rdate::Span(start, length) => is_long_from(start, length),
+    }
+}
+
+/// Whether what begins at a time and has this length lasts so long: by its days or its seconds, or from the day of its start to that of its end.
+fn is_long_from(start: Time, length: Length) -> bool {
+    match length {
+        Length::Open => false,
+        Length::Until(end) => {
+            let first = i64::from(day_of(start.stamp));
+            i64::from(day_of(end.stamp)) - first >= LONG as i64
+        }
+        Length::Lasting(duration) => duration.days >= LONG || duration.seconds >= LONG * 86_400,
+    }
+}
+
+/// The find at a place of a list.
+fn find_at(finds: &[Find], at: usize) -> Option<Find>
+    ensures { MatchOption result (Unit {0}) (λ find. slice_get finds.now at ≡ Some find) }
+{
+    Some(*finds.get(at)?)
+}
+
+/// The first place of a list, from one on, at which a find reaches past a local.
+fn reaching(finds: &[Find], at: usize, local: u64) -> usize {
+    let mut reaching = at;
+    while let Some(find) = find_at(finds, reaching) {
+        if local < find.to {
+            break;
+        }
+        reaching += 1;
+    }
+    reaching
+}
+
+/// The last find of a list and the next find as one, if the rule keeps none of the locals of the last.
+fn joined(finds: &[Find], next: Find) -> Option<Find>
+    ensures { (rule : Recurrence) → AreFinds rule finds.now → IsFind rule next → IfSome result (IsFind rule) }
+{
+    let last = find_at(finds, finds.len().wrapping_sub(1))?;
+    if last.local.is_some() || last.to != next.from || last.to < last.from {
+        return None;
+    }
+    Some(Find {
+        from: last.from,
+        to: next.to,
+        local: next.local,
+    })
+}
+
+/// Adds a find to a list, if there is room.
+fn push(finds: &mut Vec<Find>, find: Find)
+    ensures { (rule : Recurrence) → AreFinds rule finds.old.items → IsFind rule find → AreFinds rule finds.new.items }
+{
+    if finds.len() < MOST {
+        let _pushed = finds.push(find);
+    }
+}
+
+/// Adds a find to a list, as one with the last if they can be one.
+fn note(finds: &mut Vec<Find>, find: Find)
+    ensures { (rule : Recurrence) → AreFinds rule finds.old.items → IsFind rule find → AreFinds rule finds.new.items }
+{
+    match joined(finds, find) {
+        None => push(finds, find),
+        Some(one) => {
+            finds.truncate(finds.len().saturating_sub(1));
+            push(finds, one);
+        }
+    }
+}
+
+/// Adds the finds of a list from a place on to another.
+fn append(finds: &mut Vec<Find>, more: &[Find], from: usize)
+    ensures { (rule : Recurrence) → AreFinds rule finds.old.items → AreFinds rule more.now → AreFinds rule finds.new.items }
+{
+    for at in from..more.len() {
+        note(finds, more[at]);
+    }
+}
+
+impl<'a> KeptLocals<'a> {
+    /// Those of an event that recurs and lasts long: none is known. Its owner keeps them at a place.
+    pub fn new(alloc: Global, event: &'a Event, place: usize) -> Option<Box<KeptLocals<'a>>>
+        ensures { MatchOption result (Unit {0}) (λ kept. kept.value.event ≡ event.entry) }
+    {
+        if !is_long(event) {
+            return None;
+        }
+        let parts = *event.rule.as_ref()?.parts();
+        let first = local_of(event.start.stamp);
+        let rule = Rule::new(parts, first, kind_of(event.start.stamp));
+        let counting = match parts.count {
+            None => None,
+            Some(_) => Some(PlacedCursor {
+                cursor: Cursor::at(&rule, first),
+                place: first.number(),
+            }),
+        };
+        Box::new(
+            alloc,
+            KeptLocals {
+                event,
+                place,
+                rule,
+                known: Vec::new(alloc),
+                at: 0,
+                found: Vec::new(alloc),
+                counting,
+            },
+        )
+        .ok()
+    }
+
+    /// The event.
+    pub fn event(&self) -> &'a Event
+        ensures { result ≡ self.now.event }
+    {
+        self.event
+    }
+
+    /// Where its owner keeps them.
+    pub fn place(&self) -> usize {
+        self.place
+    }
+
+    /// Ends a search: what it has passed and found is known to the next, and so is what it has not reached.
+    fn end(&mut self)
+        ensures { self.new.event ≡ self.old.event }
+    {
+        append(&mut self.found, &self.known, self.at);
+        mem::swap(&mut self.known, &mut self.found);
+        self.found.clear();
+        self.at = 0;
+    }
+
+    /// The first find that reaches past a place. Those that do not are dropped.
+    fn known_at(&mut self, place: u64) -> Option<Find>
+        ensures rule { self.new.rule ≡ self.old.rule }
+        ensures event { self.new.event ≡ self.old.event }
+        ensures find { IfSome result (IsFind self.old.rule) }
+        ensures later { IfSome result (λ find. place < find.to) }
+    {
+        self.at = reaching(&self.known, self.at, place);
+        let find = find_at(&self.known, self.at)?;
+        if place < find.to { Some(find) } else { None }
+    }
+
+    /// The next local that the rule keeps from a place on, if what is known tells it.
+    fn tell(&mut self, place: u64) -> Option<Local>
+        ensures rule { self.new.rule ≡ self.old.rule }
+        ensures event { self.new.event ≡ self.old.event }
+        ensures next { IfSome result (IsNextLocal self.old.rule place) }
+    {
+        let find = self.known_at(place)?;
+        if place < find.from {
+            return None;
+        }
+        find.local
+    }
+
+    /// Passes over the find that was told last. It stays known.
+    fn leave(&mut self)
+        ensures rule { self.new.rule ≡ self.old.rule }
+        ensures event { self.new.event ≡ self.old.event }
+    {
+        if let Some(find) = find_at(&self.known, self.at) {
+            note(&mut self.found, find);
+            self.at = self.at.saturating_add(1);
+        }
+    }
+
+    /// Follows a find from a cursor's place in it on: the local that it has before `end`, if there is one.
+    fn follow(&mut self, cursor: &mut PlacedCursor, find: Find, end: u64) -> Option<Local>
+        requires find { IsFind self.old.rule find }
+        requires from { find.from ≤ cursor.old.place }
+        requires to { cursor.old.place < find.to }
+        requires more { cursor.old.place < end }
+        requires early { end ≤ rules_end }
+        requires own { IsCursorOf self.old.rule cursor.old.cursor }
+        ensures rule { self.new.rule ≡ self.old.rule }
+        ensures event { self.new.event ≡ self.old.event }
+        ensures step { IsStep self.old.rule end result cursor.old.cursor cursor.new.cursor }
+    {
+        cursor.pass(&self.rule, find.to.min(end));
+        if end < find.to {
+            return None;
+        }
+        note(&mut self.found, find);
+        self.at = self.at.saturating_add(1);
+        find.local
+    }
+
+    /// Searches for the next local that the rule keeps, from a cursor's place on and before another, which is later.
+    fn search(&mut self, cursor: &mut PlacedCursor, end: u64) -> Option<Local>
+        requires early { end ≤ rules_end }
+        requires more { cursor.old.place < end }
+        requires own { IsCursorOf self.old.rule cursor.old.cursor }
+        ensures rule { self.new.rule ≡ self.old.rule }
+        ensures event { self.new.event ≡ self.old.event }
+        ensures step { IsStep self.old.rule end result cursor.old.cursor cursor.new.cursor }
+    {
+        let from = cursor.place;
+        if let Some(counting) = self.counting {
+            if counting.place <= from {
+                return self.count(cursor, counting, end);
+            }
+        }
+        let local = cursor.next(&self.rule, end);
+        let find = Find {
+            from,
+            to: cursor.place,
+            local,
+        };
+        note(&mut self.found, find);
+        local
+    }
+
+    /// The same under COUNT, by the cursor that went furthest.
+    fn count(
+        &mut self,
+        cursor: &mut PlacedCursor,
+        mut counting: PlacedCursor,
+        end: u64,
+    ) -> Option<Local>
+        requires early { end ≤ rules_end }
+        requires more { cursor.old.place < end }
+        requires counting { IsCounting self.old.rule counting.cursor }
+        requires behind { counting.place ≤ cursor.old.place }
+        ensures rule { self.new.rule ≡ self.old.rule }
+        ensures event { self.new.event ≡ self.old.event }
+        ensures step { IsStep self.old.rule end result cursor.old.cursor cursor.new.cursor }
+    {
+        let from = cursor.place;
+        counting.pass(&self.rule, from);
+        let local = counting.next(&self.rule, end);
+        *cursor = counting;
+        self.counting = Some(counting);
+        let find = Find {
+            from,
+            to: counting.place,
+            local,
+        };
+        note(&mut self.found, find);
+        local
+    }
+
+    /// A step of a search: up to the end of what is known, or of what is not known.
+    fn step(&mut self, cursor: &mut PlacedCursor, end: u64) -> Option<Local>
+        requires early { end ≤ rules_end }
+        requires more { cursor.old.place < end }
+        requires own { IsCursorOf self.old.rule cursor.old.cursor }
+        ensures rule { self.new.rule ≡ self.old.rule }
+        ensures event { self.new.event ≡ self.old.event }
+        ensures step { IsStep self.old.rule end result cursor.old.cursor cursor.new.cursor }
+    {
+        match self.known_at(cursor.place) {
+            None => self.search(cursor, end),
+            Some(find) => {
+                if cursor.place < find.from {
+                    self.search(cursor, find.from.min(end))
+                } else {
+                    self.follow(cursor, find, end)
+                }
+            }
+        }
+    }
+
+    /// The next local that the rule keeps, from a cursor's place on and before another.
+    fn next(&mut self, cursor: &mut PlacedCursor, end: u64) -> Option<Local>
+        requires early { end ≤ rules_end }
+        requires more { cursor.old.place < end }
+        requires own { IsCursorOf self.old.rule cursor.old.cursor }
+        ensures rule { self.new.rule ≡ self.old.rule }
+        ensures event { self.new.event ≡ self.old.event }
+        ensures next { IsAnswer self.old.rule end result cursor.old.cursor cursor.new.cursor }
+        ensures day { IfSome result (λ local. IsDayNumber local.day) }
+        ensures own { IsCursorOf self.old.rule cursor.new.cursor }
+        ensures looked { LooksOn self.old.rule (known_to (option_map number result) end) cursor.old.cursor cursor.new.cursor }
+    {
+        while cursor.place < end {
+            let local = self.step(cursor, end);
+            if local.is_some() {
+                return local;
+            }
+        }
+        None
+    }
+}
+
+/// What is kept of a rule, where a search of it has ended.
+pub(crate) fn ended<'a>(kept: Option<Box<KeptLocals<'a>>>) -> Option<Box<KeptLocals<'a>>>
+    ensures { MatchOption result (Unit {0}) (λ k. MatchOption kept.entry ⊥ (λ j. k.value.event ≡ j.value.event)) }
+{
+    match kept {
+        None => None,
+        Some(mut kept) => {
+            kept.end();
+            Some(kept)
+        }
+    }
+}
+
+/// The next local that a rule keeps from a place on, if what is known of the rule tells it.
+pub(crate) fn known_next(
+    kept: &mut Option<Box<KeptLocals<'_>>>,
+    rule: &Rule,
+    place: u64,
+) -> Option<Local>
+    requires kept { MatchOption kept.old (Unit {0}) (λ k. k.value.rule ≡ rule.now) }
+    ensures same { MatchOption kept.new (Unit {0}) (λ k. MatchOption kept.old ⊥ (λ j. k.value.event ≡ j.value.event)) }
+    ensures next { IfSome result (IsNextLocal rule.now place) }
+{
+    match kept {
+        None => None,
+        Some(kept) => kept.tell(place),
+    }
+}
+
+/// Passes over the local that was told last. It stays known.
+pub(crate) fn leave(kept: &mut Option<Box<KeptLocals<'_>>>)
+    ensures { MatchOption kept.new (Unit {0}) (λ k. MatchOption kept.old ⊥ (λ j. k.value.event ≡ j.value.event)) }
+{
+    if let Some(kept) = kept {
+        kept.leave();
+    }
+}
+
+/// The next local that a rule keeps, from a cursor's place on and before another, by what is known of the rule, if that is kept.
+pub(crate) fn next(
+    kept: &mut Option<Box<KeptLocals<'_>>>,
+    cursor: &mut Cursor,
+    place: u64,
+    rule: &Rule,
+    to: Local,
+) -> Option<Local>
+    requires kept { MatchOption kept.old (Unit {0}) (λ k. k.value.rule ≡ rule.now) }
+    requires place { place ≡ place_of cursor.old }
+    requires bound { IsDayNumber to.day }
+    requires early { number to ≤ rules_end }
+    requires own { IsCursorOf rule.now cursor.old }
+    ensures same { MatchOption kept.new (Unit {0}) (λ k. MatchOption kept.old ⊥ (λ j. k.value.event ≡ j.value.event)) }
+    ensures next { IsAnswer rule.now (number to) result cursor.old cursor.new }
+    ensures day { IfSome result (λ local. IsDayNumber local.day) }
+    ensures own { IsCursorOf rule.now cursor.new }
+    ensures looked { LooksOn rule.now (known_to (option_map number result) (number to)) cursor.old cursor.new }
+{
+    match kept {
+        Some(kept) if place < to.number() => {
+            let mut placed = PlacedCursor {
+                cursor: *cursor,
+                place,
+            };
+            let local = kept.next(&mut placed, to.number());
+            *cursor = placed.cursor;
+            local
+        }
+        _ => cursor.next(rule, to),
+    }
+}
