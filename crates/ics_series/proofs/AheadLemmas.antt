@@ -5,17 +5,19 @@ use Rattle.std.proofs.Common.{Some, sum_by, option_map, nat_cmp, Ordering, Less,
 use Rattle.std.proofs.lemmas.Int.{ints, int_max_is, int_min_is}
 use Rattle.ics_file.specs.File.{FileSaid}
 use Rattle.ics_zone.specs.declared.bounds.Bounds.{Bounds}
-use Rattle.ics_series.specs.NearDays.{first_near, last_near, HasOffsets, IsNearDay}
+use Rattle.ics_days.specs.NearDays.{first_near, last_near, HasOffsets, IsNearDay}
 use Rattle.ics_zone.proofs.Cases.{int_le_true, int_lt_true, less_or_not_z, true_int_lt}
 use Rattle.std.proofs.lemmas.Bool.{and_parts}
 use Rattle.std.specs.Cmp.{int_cmp_is}
 use Rattle.std.specs.Int.{int_max}
 use Rattle.ics_listing.specs.declared.window.Window.{Window}
 use Rattle.ics_listing.specs.After.{is_after}
-use Rattle.ics_series.specs.Ahead.{is_today, today, IsAheadOf, IsLater}
+use Rattle.ics_series.specs.Ahead.{today, IsAheadOf, IsLater}
+use Rattle.ics_days.specs.ShownDays.{date_at, first_day, is_on, last_day}
+use Rattle.ics_days.specs.Today.{is_today}
 use Rattle.ics_listing.specs.FileClocks.{Clock}
 use Rattle.ics_listing.specs.DayKeys.{day_rank_of, DayRank, after_day_key, is_day_after, on_day, on_day_cmp, OnDay}
-use Rattle.ics_series.specs.OnDays.{date_at, first_day, is_on, last_day, Begins, IsOnDay}
+use Rattle.ics_series.specs.OnDays.{Begins, IsOnDay}
 use Rattle.ics_series.specs.OnDays.{IsBehindKey}
 use Rattle.ics_series.specs.DaySteps.{IsNearAgenda, IsPastAgenda, day_and_start, masters_in, AreDayMasters, AreMasters, IsDayMaster, IsFromStart, Scope}
 use Rattle.ics_series.specs.DaySteps.{begin_day, day_of_first, day_of_key, first_under, most_in, sum_days, AreDayBounds, HasDaysBound, IsLookedBefore}
@@ -29,7 +31,8 @@ use Rattle.ics_listing.specs.FeedSources.{Source, Recurring}
 use Rattle.ics_series.specs.Sources.{master_of, recurring, uid_cmp, IsFrom, master_at, AreSources, IsMasterOf}
 use Rattle.ics_listing.proofs.ListingLemmas.{listing-filter, one-listing, relisted, all-in, all-as, sums-within, rises-on}
 use Rattle.ics_listing.proofs.NearLemmas.{day-under}
-use Rattle.ics_series.proofs.NearDayLemmas.{bounds-offsets, day-fits, meets-near, near-first, near-last, occurs-forward, shown-by}
+use Rattle.ics_days.proofs.NearDayLemmas.{bounds-offsets, day-fits, meets-near, near-first, near-last, shown-by}
+use Rattle.ics_series.proofs.OccursLemmas.{occurs-forward}
 use Rattle.ics_series.proofs.OnDayLemmas.{day-first, on_day_total, shown-today, today-listing, today-shown}
 use Rattle.ics_starts.proofs.JoinedLemmas.{joined, none-listed}
 use Rattle.ics_series.proofs.ToComeLemmas.{after-come, come-after, come-listed}
@@ -283,9 +286,9 @@ master_total = on_total (λ (m : Master). m.event.uid) nat_list_cmp_total
 module _ (files : List FileSaid) (display : Clock) where
   -- a master of the folder
   pub record IsOfFolder (m : Recurring) : Type 0 where
-    by : Placed
-    is : IsMaster files display by
-    same : master_of m ≡ master_at files display by
+    pub by : Placed
+    pub is : IsMaster files display by
+    pub same : master_of m ≡ master_at files display by
 
   -- A sum over some masters of the folder, each with a UID of its own, is at most that over all of them.
   pub sum-of-masters : (f : Master → ℕ) (ms : List Recurring) (masters : List Placed) → Rises uid_cmp ms → AllByRecursion IsOfFolder ms

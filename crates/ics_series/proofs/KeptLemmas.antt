@@ -20,7 +20,8 @@ use Rattle.ics_series.specs.Meets.{IsListed}
 use Rattle.ics_starts.specs.MeetsWindow.{Meets}
 use Rattle.ics_starts.specs.Instances.{IsInstance, IsOf}
 use Rattle.ics_series.specs.Occurs.{IsMoved, Occurs}
-use Rattle.ics_series.specs.OnDays.{IsOnDay, is_on}
+use Rattle.ics_series.specs.OnDays.{IsOnDay}
+use Rattle.ics_days.specs.ShownDays.{is_on}
 use Rattle.ics_listing.specs.DayKeys.{OnDay, on_day, on_day_cmp}
 use Rattle.ics_series.specs.PlacedEvents.{IsPlaced, Placed, clocks_at, placed_cmp, zones_of}
 use Rattle.ics_listing.specs.Rising.{IsBefore, Rises}

@@ -1,12 +1,14 @@
 pub mod AfterLemmas
 pub mod AheadLemmas
 pub mod BeginningLemmas
+pub mod GapLemmas
 pub mod HoldingLaws
 pub mod MarkLemmas
-pub mod NearDayLemmas
+pub mod NearPlaceLemmas
 pub mod OccursLemmas
 pub mod OnDayLemmas
 pub mod OverrideLemmas
+pub mod ReachLemmas
 pub mod RecurringLemmas
 pub mod ReplacedLemmas
 pub mod SinglesLemmas
@@ -19,4 +21,4 @@ pub mod MoveLemmas
 pub mod WholeLemmas
 pub mod WindowLemmas
 pub mod KeptLemmas
-pub mod ShownLemmas
+pub mod KnownLemmas

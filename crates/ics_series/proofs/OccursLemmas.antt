@@ -1,5 +1,6 @@
--- No two occurrences of a folder have one UID and one recurrence.
-use Rattle.std.proofs.Common.{◌≡◌, ℕ, ℤ, List, Option, Some, None, inl, inr, sym, ◌∙◌, ap, subst, option_map}
+-- No two occurrences of a folder have one UID and one recurrence, and none ends before it starts.
+use Rattle.std.proofs.Common.{◌≡◌, ◌≤ℤ◌, ℕ, ℤ, List, Option, Some, None, inl, inr, sym, ◌∙◌, ap, arith, subst, option_map}
+use Rattle.std.proofs.lemmas.Int.{int_max_is, ints}
 use Rattle.ics_file.specs.File.{FileSaid}
 use Rattle.ics_event.specs.declared.event.Event.{Event}
 use Rattle.ics_series.specs.Chosen.{subject_of, SubjectSeen, IsMaster, IsOverride}
@@ -62,3 +63,8 @@ module _ (files : List FileSaid) (display : Clock) where
   one-recurrence o q (inl a) (inr b) u r = absurd (not-both o q u r a b)
   one-recurrence o q (inr a) (inl b) u r = absurd (not-both q o (sym u) (sym r) b a)
   one-recurrence o q (inr a) (inr b) u r = both-overrides o q u r a b
+
+-- an occurrence ends where it starts, or later
+pub occurs-forward : (files : List FileSaid) (display : Clock) (o : Entry) → Occurs files display o → o.start ≤ℤ o.finish
+occurs-forward files display o (inl m) = omega (arith, ints, m.of.lasts.starts, m.of.lasts.ends, int_max_is)
+occurs-forward files display o (inr m) = omega (arith, ints, m.of.starts, m.of.ends, int_max_is)

@@ -7,9 +7,11 @@ use Rattle.std.proofs.lemmas.Cmp.{int_cmp_total, on_total, then_total, tied_itse
 use Rattle.std.proofs.lemmas.Bool.{and_from, and_parts}
 use Rattle.ics_file.specs.File.{FileSaid}
 use Rattle.ics_listing.specs.declared.window.Window.{Window}
-use Rattle.ics_series.specs.Ahead.{is_today, today}
+use Rattle.ics_series.specs.Ahead.{today}
+use Rattle.ics_days.specs.ShownDays.{is_on}
+use Rattle.ics_days.specs.Today.{is_today}
 use Rattle.ics_listing.specs.FileClocks.{Clock}
-use Rattle.ics_series.specs.OnDays.{is_on, IsOnDay}
+use Rattle.ics_series.specs.OnDays.{IsOnDay}
 use Rattle.ics_listing.specs.DayKeys.{day_rank_of, on_day, on_day_cmp, OnDay, after_day_key}
 use Rattle.ics_listing.specs.Entry.{Entry, entry_cmp, rank_cmp, rank_of}
 use Rattle.ics_listing.specs.Inner.EntryLaws.{rank_total}

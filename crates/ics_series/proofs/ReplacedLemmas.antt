@@ -1,5 +1,5 @@
 -- The instances of a UID that overrides replace.
-use Rattle.std.proofs.Common.{◌≡◌, ◌↔◌, ◌≤◌, ◌<◌, ◌+◌, ◌++◌, ℕ, zero, suc, ℤ, ◌||◌, List, [], ◌∷◌, map, length, drop, take, Option, Some, None, Bool}
+use Rattle.std.proofs.Common.{◌≡◌, ◌↔◌, ◌≤◌, ◌<◌, ◌++◌, ℕ, zero, suc, ℤ, ◌||◌, List, [], ◌∷◌, map, length, drop, take, Option, Some, None, Bool}
 use Rattle.std.proofs.Common.{true, false, if◌then◌else◌, refl, sym, ◌∙◌, ap, subst, arith, int_cmp, nat_cmp, is_eq, get_or, slice_get, inl, inr}
 use Rattle.std.proofs.Common.{Ordering, Less, Equal, Greater}
 use Rattle.std.specs.List.{cons_option, filter_map}

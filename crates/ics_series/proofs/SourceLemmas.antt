@@ -208,7 +208,7 @@ module _ {files : List FileSaid} {display : Clock} {w : Window} {after : Option 
         HasSources files display w after (map seen vs) before now
     sources-all i {before = before} {now = now} l h = subst (λ xs. HasSources files display w after (map seen xs) before now) (take_all i vs l) h
 
-    master-of : (m : Recurring) → IsSource files display w after (map seen vs) m → IsMasterOf files display w after m
+    pub master-of : (m : Recurring) → IsSource files display w after (map seen vs) m → IsMasterOf files display w after m
     master-of m h =
         let o = own chosen h.stands (recurs-of h.label m h.is) in
         let same = own-event chosen h.stands (recurs-of h.label m h.is) in record {

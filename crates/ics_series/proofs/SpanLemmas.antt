@@ -2,7 +2,7 @@
 use Rattle.std.proofs.Common.{◌≡◌, ℕ, ℤ, pos, ◌+ℤ◌, ◌-ℤ◌, ◌<ℤ◌, ◌≤ℤ◌, List, [], ◌∷◌, map, inl, inr, ⊎_elim, Option, Some, None, Bool, true, false}
 use Rattle.std.proofs.Common.{refl, sym}
 use Rattle.std.proofs.Common.{◌∙◌, ap, ◌+◌, ◌<◌, ◌++◌, length, drop, get_or, add-one, drop-cons}
-use Rattle.std.proofs.Common.{subst, arith, int_lt, int_le, slice_get, option_map, option_and_then, if◌then◌else◌, IsTrue, Ordering, ◌⊎◌}
+use Rattle.std.proofs.Common.{subst, arith, int_lt, slice_get, option_map, option_and_then, if◌then◌else◌, IsTrue, Ordering}
 use Rattle.std.specs.Int.{int_max, int_min}
 use Rattle.std.specs.Option.{unwrap_or}
 use Rattle.std.specs.List.{AllByRecursion, filter_map}
@@ -13,10 +13,10 @@ use Rattle.std.proofs.lemmas.Option.{slice_get-get_or, slice_get-map}
 use Rattle.ics_file.specs.File.{FileSaid}
 use Rattle.ics_event.specs.declared.event.Event.{Event}
 use Rattle.ics_fields.specs.Locals.{day_of_local, midnight}
-use Rattle.ics_zone.proofs.Cases.{int_le_false, less_or_not_z, true_int_le, true_int_lt}
+use Rattle.ics_zone.proofs.Cases.{less_or_not_z, true_int_le, true_int_lt}
 use Rattle.ics_zone.specs.declared.bounds.Bounds.{Bounds}
 use Rattle.ics_starts.specs.Clocks.{instant}
-use Rattle.ics_series.specs.NearDays.{first_near, last_near, HasOffsets, IsNearDay}
+use Rattle.ics_days.specs.NearDays.{first_near, last_near, HasOffsets, IsNearDay}
 use Rattle.ics_starts.specs.declared.series.Series.{Series}
 use Rattle.ics_series.specs.declared.span.Span.{Span}
 use Rattle.ics_series.specs.declared.version.Version.{Version}
@@ -38,7 +38,7 @@ use Rattle.ics_listing.specs.Rising.{Rises}
 use Rattle.ics_starts.specs.SingleEvents.{begun_first, entry_first, is_single}
 use Rattle.ics_series.specs.Singles.{single_at, single_of}
 use Rattle.ics_series.specs.Inner.SpanLaws.{AreThoseChosen}
-use Rattle.ics_series.specs.Inner.Spans.{always, can_meet, first_at, first_in, first_of, is_out, is_out_of, span_at, span_by, span_of, span_once, IsKeptFrom}
+use Rattle.ics_series.specs.Inner.Spans.{always, can_meet, first_at, first_in, is_out, is_out_of, span_at, span_by, span_of, span_once, IsKeptFrom}
 use Rattle.ics_series.specs.Inner.Spans.{floor_of, AreMovedOn, AreSpans, AreSpansAfter, IsLater, IsMovedOn, IsRest, IsSpanOf, IsStartedBy, NoneMeets}
 use Rattle.ics_listing.specs.After.{is_after}
 use Rattle.ics_listing.specs.WindowBounds.{occurrence_first}
@@ -51,7 +51,7 @@ use Rattle.ics_series.proofs.AheadLemmas.{near-under, shown-first, shown-last, N
 use Rattle.ics_listing.proofs.Cases.{not-true}
 use Rattle.ics_listing.proofs.ListingLemmas.{contains-in, get-in, one-listing}
 use Rattle.ics_listing.proofs.NearLemmas.{day-under}
-use Rattle.ics_series.proofs.NearDayLemmas.{bounds-offsets, day-within, later-on, near-ordered}
+use Rattle.ics_days.proofs.NearDayLemmas.{bounds-offsets, day-within, later-on, near-ordered}
 use Rattle.ics_starts.proofs.MeetsLemmas.{is_met-meets, meets-is_met}
 use Rattle.ics_series.proofs.MarkLemmas.{first_source}
 use Rattle.ics_series.proofs.RecurringLemmas.{recurring-master}
@@ -443,57 +443,20 @@ near-window clock w b bounded day low high = (
   },
 )
 
--- The first that can begin.
-module _ (from : ℤ) where
-  pub first-most : (least : ℤ) (spans : List Span) → first_of from least spans ≤ℤ least
-  first-most least [] = omega (arith, ints)
-  first-most least (s ∷ spans) = by (int_le from s.last) (first-most (int_min least s.first) spans) (first-most least spans)
-    where
-      by : (b : Bool) → first_of from (int_min least s.first) spans ≤ℤ int_min least s.first → first_of from least spans ≤ℤ least →
-          first_of from (if b then int_min least s.first else least) spans ≤ℤ least
-      by true rest same = omega (arith, ints, rest, int_min_is least s.first)
-      by false rest same = same
-
-  first-each : (least : ℤ) (s : Span) (spans : List Span) → IsIn s spans → (s.last <ℤ from) ⊎ (first_of from least spans ≤ℤ s.first)
-  first-each least s [] m = absurd m
-  first-each least s (x ∷ spans) m =
-      ⊎_elim (λ e. by (int_le from x.last) refl e)
-      (λ n. first-each (if int_le from x.last then int_min least x.first else least) s spans n) m
-    where
-      by : (b : Bool) → int_le from x.last ≡ b → s ≡ x → (s.last <ℤ from) ⊎ (first_of from (if b then int_min least x.first else least) spans ≤ℤ s.first)
-      by true t e =
-          let rest = first-most (int_min least x.first) spans in
-          let same = ap (λ (v : Span). v.first) e in
-          inr (omega (arith, ints, rest, same, int_min_is least x.first))
-      by false t e =
-          let same = ap (λ (v : Span). v.last) e in
-          let less = int_le_false from x.last t in
-          inl (omega (arith, ints, less, same))
-
--- The day from which on something can be: near the days before it nothing is.
-module _ (w : Window) (b : Bounds) (spans : List Span) {day from first reached next : ℤ} (low : first_near w b ≤ℤ day) (most : next ≤ℤ last_near w b)
-    (begin : from ≡ midnight (day +ℤ pos 1) -ℤ b.most) (is : first ≡ int_max (first_of from w.to spans) w.from)
+-- The day from which on something can be: near the days before it a window begins no earlier than the day after this one, and ends by the instant by
+-- which nothing has begun.
+module _ (w : Window) (b : Bounds) {day from first least reached next : ℤ} (low : first_near w b ≤ℤ day) (most : next ≤ℤ last_near w b)
+    (begin : from ≡ midnight (day +ℤ pos 1) -ℤ b.most) (is : first ≡ int_max least w.from)
     (at : reached ≡ day_of_local (first +ℤ b.least)) (day-is : next ≤ℤ int_max reached (day +ℤ pos 1)) where
-  pub none-near : (x : ℤ) → day <ℤ x → x <ℤ next → (s : Span) → IsIn s spans → (clock : Clock) (n : Window) → IsNearDay clock w b x n
-      → can_meet s n ≡ false
-  none-near x later early s m clock n near =
+  pub near-between : (x : ℤ) → day <ℤ x → x <ℤ next → (clock : Clock) (n : Window) → IsNearDay clock w b x n → (from ≤ℤ n.from) × (n.to ≤ℤ least)
+  near-between x later early clock n near =
       let under = day-under (first +ℤ b.least) (day_of_local (first +ℤ b.least)) refl in
       let within = day-within w b x (omega (arith, ints, low, later)) (omega (arith, ints, most, early)) in
       let before : x <ℤ reached = omega (arith, ints, later, early, day-is, int_max_is reached (day +ℤ pos 1)) in
-      let least = int_max_is (first_of from w.to spans) w.from in
-      let ends : n.to ≤ℤ first_of from w.to spans =
-      omega (arith, ints, near.to, int_min_is w.to (midnight (x +ℤ pos 1) -ℤ b.least), under.0, before, at, is, least, within.0) in
-      let begins : from ≤ℤ n.from = omega (arith, ints, begin, near.from, int_max_is w.from (midnight x -ℤ b.most), later) in
-      ⊎_elim
-      (λ over. cannot-end s n (omega (arith, ints, over, begins)))
-      (λ late. cannot-begin s n (omega (arith, ints, late, ends)))
-      (first-each from w.to s spans m)
-    where
-      cannot-begin : (s : Span) (n : Window) → n.to ≤ℤ s.first → can_meet s n ≡ false
-      cannot-begin s n l = grind (arith, ints, l)
-
-      cannot-end : (s : Span) (n : Window) → s.last <ℤ n.from → can_meet s n ≡ false
-      cannot-end s n l = grind (arith, ints, l)
+      let greatest = int_max_is least w.from in (
+        omega (arith, ints, begin, near.from, int_max_is w.from (midnight x -ℤ b.most), later),
+        omega (arith, ints, near.to, int_min_is w.to (midnight (x +ℤ pos 1) -ℤ b.least), under.0, before, at, is, greatest, within.0),
+      )
 
 -- What meets a window begins at the floor of that or later, if there is one.
 meets-floor : (w : Window) (o : Entry) → Meets w o → IsStartedBy (floor_of w) o

@@ -12,7 +12,8 @@ use Rattle.ics_series.specs.Meets.{IsListed}
 use Rattle.ics_starts.specs.MeetsWindow.{Meets}
 use Rattle.ics_series.specs.Occurs.{Occurs}
 use Rattle.ics_series.specs.WindowLaws.{IsJoined, IsWithin}
-use Rattle.ics_series.proofs.NearDayLemmas.{lasts-from, occurs-forward}
+use Rattle.ics_days.proofs.NearDayLemmas.{lasts-from}
+use Rattle.ics_series.proofs.OccursLemmas.{occurs-forward}
 use Rattle.ics_starts.proofs.JoinedLemmas.{joined as joined-listing}
 
 module _ (files : List FileSaid) (display : Clock) where

@@ -1,5 +1,5 @@
 -- What is still to come of a listing under each day.
-use Rattle.std.specs.Prelude.{◌≡◌, ◌<ℤ◌, ◌&&◌, ◌∷◌, ◌++◌, ℤ, Bool, List, filter, map, Option, Some, None}
+use Rattle.std.specs.Prelude.{◌≡◌, ◌<ℤ◌, ◌∷◌, ◌++◌, ℤ, List, filter, map, Option, Some, None}
 use Rattle.ics_file.specs.File.{said_by, FileSaid}
 use Rattle.ics_series.specs.declared.agenda.Agenda.{Agenda}
 use Rattle.ics_series.specs.declared.days.Days.{Days}
@@ -8,19 +8,15 @@ use Rattle.ics_listing.specs.declared.window.Window.{Window}
 use Rattle.ics_listing.specs.FileClocks.{Clock}
 use Rattle.ics_starts.specs.Clocks.{display_clock}
 use Rattle.ics_series.specs.DaySteps.{scope_in, Scope}
-use Rattle.ics_series.specs.OnDays.{is_on, IsOnDay}
+use Rattle.ics_series.specs.OnDays.{IsOnDay}
+use Rattle.ics_days.specs.Today.{is_today}
 use Rattle.ics_listing.specs.DayKeys.{on_day, on_day_cmp, OnDay}
 use Rattle.ics_listing.specs.Entry.{Entry, entry_of}
 use Rattle.ics_listing.specs.Listing.{IsListing}
-use Rattle.ics_listing.specs.WindowMeeting.{is_met}
 use Rattle.ics_listing.specs.Merges.{merge_coming}
 use Rattle.ics_series.specs.AgendaParts.{part_coming}
 
--- an occurrence meets the window and has this day there
-abbrev pub is_today : Clock → Window → ℤ → Entry → Bool
-is_today display w day o = is_met w o && is_on display w o day
-
--- those of a list that do, under the day
+-- those of a list that meet the window and have this day there, under the day
 abbrev pub today : Clock → Window → ℤ → List Entry → List OnDay
 today display w day list = map (on_day day) (filter (λ o. is_today display w day o) list)
 

@@ -13,7 +13,7 @@ use Rattle.ics_series.specs.HeldMost.{Master}
 use Rattle.ics_series.specs.Holding.{part_holds, part_looked}
 use Rattle.ics_listing.specs.Listing.{IsListing, IsIn}
 use Rattle.ics_series.specs.Meets.{IsToCome}
-use Rattle.ics_series.specs.NearDays.{first_near, last_near, IsNearDay}
+use Rattle.ics_days.specs.NearDays.{first_near, last_near, IsNearDay}
 use Rattle.ics_listing.specs.Merges.{merge_all, merge_holds, merge_looked}
 use Rattle.ics_series.specs.AgendaParts.{part_sources}
 use Rattle.ics_series.specs.PlacedEvents.{Placed}

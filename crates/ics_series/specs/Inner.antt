@@ -1,8 +1,10 @@
 -- Words of private contracts and of proofs: no public clause reaches them.
 pub mod Beginnings
+pub mod HasPlaces
+pub mod Kept
 pub mod Marks
 pub mod Masters
-pub mod Offsets
+pub mod NearPlaces
 pub mod SpanLaws
 pub mod Spans
 pub mod Whole

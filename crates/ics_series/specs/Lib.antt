@@ -40,6 +40,9 @@ pub use Rattle.ics_starts.specs.FileZones
 pub use Rattle.ics_starts.specs.RuleMarks
 pub use Rattle.ics_starts.specs.Quiet
 pub use Rattle.ics_starts.specs.RuleStartLaws
+pub use Rattle.ics_days.specs.NearDays
+pub use Rattle.ics_days.specs.ShownDays
+pub use Rattle.ics_days.specs.Today
 pub mod Ahead
 pub mod Chosen
 pub mod FolderContents
@@ -48,7 +51,6 @@ pub mod HeldMost
 pub mod Holding
 pub mod Laws
 pub mod Meets
-pub mod NearDays
 pub mod Occurs
 pub mod OnDays
 pub mod Overridden

@@ -1,38 +1,16 @@
--- The days under which an occurrence is shown (the program's own form), and the listing of a window under each day.
-use Rattle.std.specs.Prelude.{ℤ, pos, ◌-ℤ◌, ◌&&◌, Bool, int_le, if◌then◌else◌, ◌≡◌, true, List, ◌∷◌, Option, Some, None, ◌≤ℤ◌, ◌||◌, int_lt, ◌++◌}
-use Rattle.std.specs.Int.{int_max, int_min}
+-- The listing of a window under each day.
+use Rattle.std.specs.Prelude.{ℤ, ◌≡◌, true, List, ◌∷◌, Option, Some, None, ◌≤ℤ◌, ◌&&◌, ◌||◌, int_lt, ◌++◌}
 use Rattle.std.specs.Ordering.{int_eq}
-use Rattle.ics_fields.specs.Locals.{day_of_local}
 use Rattle.ics_file.specs.File.{FileSaid}
 use Rattle.ics_listing.specs.declared.window.Window.{Window}
 use Rattle.ics_listing.specs.FileClocks.{Clock}
-use Rattle.ics_starts.specs.Clocks.{local_at}
-use Rattle.ics_listing.specs.Entry.{Entry, Rank}
+use Rattle.ics_listing.specs.Entry.{Rank}
+use Rattle.ics_days.specs.ShownDays.{is_on}
 use Rattle.ics_series.specs.Meets.{IsListed}
 use Rattle.ics_starts.specs.MeetsWindow.{Meets}
 use Rattle.ics_listing.specs.After.{is_after}
 use Rattle.ics_listing.specs.Listing.{IsListing}
 use Rattle.ics_listing.specs.DayKeys.{DayRank, OnDay, day_rank_of, on_day_cmp, is_day_after, after_day_key}
-
--- the date that a clock shows
-abbrev pub date_at : Clock → ℤ → ℤ
-date_at clock t = day_of_local (local_at clock t)
-
--- the first day of an occurrence in a window: that of the later of its start and the window's
-abbrev pub first_day : Clock → Window → Entry → ℤ
-first_day clock w o = date_at clock (int_max o.start w.from)
-
--- the day of its last second before both its finish and the window's end
-abbrev pub end_day : Clock → Window → Entry → ℤ
-end_day clock w o = date_at clock (int_min o.finish w.to -ℤ pos 1)
-
--- The last of its days: that day, where it is not before the first. One of no length has the first alone.
-abbrev pub last_day : Clock → Window → Entry → ℤ
-last_day clock w o = if int_eq o.finish o.start then first_day clock w o else int_max (first_day clock w o) (end_day clock w o)
-
--- a day is one of an occurrence's in a window
-abbrev pub is_on : Clock → Window → Entry → ℤ → Bool
-is_on clock w o day = int_le (first_day clock w o) day && int_le day (last_day clock w o)
 
 -- an occurrence of the folder that meets the window, under one of its days there
 pub record IsOnDay (files : List FileSaid) (display : Clock) (w : Window) (p : OnDay) : Type 0 where

@@ -1,5 +1,5 @@
 //! The listing of a window.
-ghost use Rattle.std.specs.Prelude.{◌≡◌, ◌≤◌, ◌-◌, ◌^◌, ℕ, List, [], length, map, min, sum_by, true, IfOk};
+ghost use Rattle.std.specs.Prelude.{◌≡◌, ◌≤◌, ◌-◌, ◌^◌, ℕ, List, [], filter, length, map, min, sum_by, true, IfOk};
 ghost use Rattle.std.specs.List.Sorted.{IsSorted};
 ghost use Rattle.std.specs.Option.{option_map};
 ghost use Rattle.std.specs.Ordering.{on};
@@ -10,6 +10,7 @@ ghost use Rattle.ics_listing.specs.Entry.{Entry, entry_cmp, entry_of, key_rank, 
 ghost use Rattle.ics_series.specs.HeldMost.{held_most};
 ghost use Rattle.ics_series.specs.Holding.{part_holds, part_looked};
 ghost use Rattle.ics_listing.specs.Listing.{IsIn, IsListing};
+ghost use Rattle.ics_series.specs.Inner.Kept.{AreKept};
 ghost use Rattle.ics_series.specs.Inner.Marks.{AreMarks};
 ghost use Rattle.ics_series.specs.Meets.{IsListed, IsToCome};
 ghost use Rattle.ics_listing.specs.Merges.{merge_all, merge_coming, merge_holds, merge_looked};
@@ -21,18 +22,20 @@ ghost use Rattle.ics_series.specs.Sources.{master_of, recurring, AreApart, AreAp
 ghost use Rattle.ics_listing.specs.FeedSources.{Recurring};
 ghost use Rattle.ics_series.specs.Steps.{HasStepBound};
 ghost use Rattle.ics_listing.specs.Tokens.{IsKey};
+ghost use Rattle.ics_series.specs.Inner.NearPlaces.{AreNear, AreSameBut};
 ghost use Rattle.ics_series.specs.Inner.Spans.{AreMovedOn, AreSpans, IsStartedBy};
-ghost use Rattle.ics_series.specs.Versions.{seen, subject_cmp, subject_seen, AreChosen};
+ghost use Rattle.ics_series.specs.Versions.{is_override, seen, subject_cmp, subject_seen, AreChosen};
 
 use crate::chosen::{chosen, is_named, overrides};
 use crate::masters::push_series;
+use crate::near_places::all_places;
 use crate::part::Part;
 use crate::singles::Singles;
 use crate::span::Span;
 use crate::version::{Subject, Version};
 use ics_file::FileEvents;
-use ics_listing::{Coming, Feed, Key, Merge, Occurrence, Window};
-use ics_starts::Mark;
+use ics_listing::{Coming, Feed, Key, Lead, Merge, Occurrence, Window};
+use ics_starts::{KeptLocals, Mark};
 use ics_values::Moment;
 use ics_zone::Display;
 use std::alloc::{AllocError, Global};
@@ -69,14 +72,18 @@ impl<'a> Agenda<'a> {
             → Occurs (map said_by files.entry.now) (display_clock display.entry.now) o → IsKey (rank_of o)) }
     {
         let chosen = chosen(alloc, files, display)?;
+        let overrides = overrides(alloc, &chosen)?;
+        let near = all_places(alloc, chosen.len())?;
         let mut spans = Vec::new(alloc);
         let mut marks = Vec::new(alloc);
+        let mut kept = Vec::new(alloc);
         Agenda::of(
-            alloc, files, display, &chosen, &mut spans, &mut marks, window, after, None,
+            alloc, files, display, &chosen, &overrides, &near, &mut spans, &mut marks, &mut kept,
+            window, after, None,
         )
     }
 
-    /// Those of the versions that count. The spans, if there are any, say which of them need not be read, and
+    /// Those of the versions that count, which are at the near places. The spans, if there are any, say which of them need not be read, and
     /// are moved on where nothing is that begins at the floor or later. The marks say from where on rules under
     /// COUNT are searched.
     pub(crate) fn of(
@@ -84,19 +91,27 @@ impl<'a> Agenda<'a> {
         files: &'a [FileEvents],
         display: &'a Display,
         chosen: &[Version<'a>],
+        overrides: &[Version<'a>],
+        near: &[usize],
         spans: &mut Vec<Span>,
         marks: &mut Vec<Option<Mark>>,
+        kept: &mut Vec<Option<Box<KeptLocals<'a>>>>,
         window: Window,
         after: Option<&Key>,
         floor: Option<Moment>,
     ) -> Result<Agenda<'a>, AllocError>
         requires chosen { AreChosen (map said_by files.now) (display_clock display.now) chosen.now }
         requires spans { AreSpans (map said_by files.now) (display_clock display.now) window floor (map seen chosen.now) spans.old.items }
+        requires overrides { map seen overrides.now ≡ filter is_override (map seen chosen.now) }
+        requires near { AreNear spans.old.items window (length chosen.now) near.now }
         requires floor { (o : Entry) → is_after (option_map (λ key. key_rank key.now) after) o ≡ true → IsStartedBy floor o }
         requires marks { AreMarks (map said_by files.now) (map seen chosen.now) marks.old.items }
+        requires kept { AreKept (map said_by files.now) (display_clock display.now) kept.old.items }
         ensures spans { AreMovedOn (map said_by files.entry.now) (display_clock display.entry.now) window floor (map seen chosen.entry.now)
             spans.old.items spans.new.items }
+        ensures others { AreSameBut near.entry.now spans.old.items spans.new.items }
         ensures marks { AreMarks (map said_by files.entry.now) (map seen chosen.entry.now) marks.new.items }
+        ensures kept { AreKept (map said_by files.entry.now) (display_clock display.entry.now) kept.new.items }
         ensures listing { IfOk result (λ agenda. IsListing entry_cmp
             (IsToCome (map said_by files.entry.now) (display_clock display.entry.now) window
             (option_map (λ key. key_rank key.now) after.entry))
@@ -104,14 +119,14 @@ impl<'a> Agenda<'a> {
         ensures sources { IfOk result (λ agenda. AreSources (map said_by files.entry.now) (display_clock display.entry.now) window
             (option_map (λ key. key_rank key.now) after.entry) (⟦<Agenda<'a> as Coming>⟧.sources agenda)) }
     {
-        let overrides = overrides(alloc, chosen)?;
         let singles = Singles::new(
-            alloc, files, display, chosen, spans, &overrides, &window, after,
+            alloc, files, display, chosen, near, spans, overrides, &window, after,
         )?;
         let mut parts = Vec::new(alloc);
         parts.push(Part::Singles(singles))?;
         push_series(
-            alloc, &mut parts, files, display, chosen, spans, marks, window, after, floor,
+            alloc, &mut parts, files, display, chosen, near, spans, marks, kept, window, after,
+            floor,
         )?;
         let merge = Merge::of_sorted(alloc, parts, 1, window.from)?;
         Ok(Agenda { merge })
@@ -126,14 +141,15 @@ impl<'a> Agenda<'a> {
         Ok(Agenda { merge })
     }
 
-    /// Drops what is still to come, and all that is searched for it. It allocates nothing.
-    pub(crate) fn end(&mut self)
+    /// Drops what is still to come, and gives back the feeds that it was searched by. It allocates nothing.
+    pub(crate) fn end(&mut self, alloc: Global) -> Vec<Lead<'a, Part<'a>>>
         ensures none { ⟦<Agenda<'a> as Coming>⟧.coming self.new ≡ [] }
         ensures sources { ⟦<Agenda<'a> as Coming>⟧.sources self.new ≡ [] }
         ensures holds { merge_holds part_holds self.new.merge ≡ [] }
         ensures looked { merge_looked part_looked self.new.merge ≡ 0 }
+        ensures leads { result.items ≡ self.old.merge.leads.items }
     {
-        self.merge.end();
+        self.merge.end(alloc)
     }
 
     /// How many built occurrences are held: the one that was given last, the next one of each feed that

@@ -1,8 +1,7 @@
 //! The listing of a window under each day.
 ghost use Rattle.std.specs.Prelude.{◌≡◌, ◌⊎◌, ◌≤◌, ◌+◌, ◌-◌, ◌^◌, ◌≤ℤ◌, ◌<ℤ◌, ◌-ℤ◌, ℕ, ℤ, pos, false, true, length, min};
-ghost use Rattle.std.specs.Prelude.{List, [], map, IfOk, IfSome, OnErr, OnOk, None};
-ghost use Rattle.std.specs.Prelude.{int_le, int_lt, if◌then◌else◌};
-ghost use Rattle.std.specs.Int.{int_min};
+ghost use Rattle.std.specs.Prelude.{List, [], filter, map, IfOk, IfSome, OnErr, OnOk, None};
+ghost use Rattle.std.specs.Prelude.{int_lt};
 ghost use Rattle.std.specs.Option.{option_map};
 ghost use Rattle.ics_fields.specs.Days.{IsDayNumber};
 ghost use Rattle.ics_file.specs.File.{said_by};
@@ -10,38 +9,44 @@ ghost use Rattle.ics_listing.specs.FileClocks.{Clock};
 ghost use Rattle.ics_starts.specs.Clocks.{display_clock};
 ghost use Rattle.ics_listing.specs.DayKeys.{day_key_rank, day_rank_of, after_day_key, on_day_cmp, GivesOnDay, OnDay};
 ghost use Rattle.ics_listing.specs.After.{is_after};
-ghost use Rattle.ics_series.specs.OnDays.{date_at, is_on, Begins, IsBehindKey, IsOnDay};
+ghost use Rattle.ics_series.specs.OnDays.{Begins, IsBehindKey, IsOnDay};
+ghost use Rattle.ics_days.specs.ShownDays.{date_at, is_on};
 ghost use Rattle.ics_series.specs.DaySteps.{agenda_holds, agenda_looked, agenda_sources, day_and_start, masters_in, scope_by, scope_in, AreDayMasters};
 ghost use Rattle.ics_series.specs.DaySteps.{AreMasters, IsNearAgenda, IsPastAgenda, day_of_key, HasDaysBound, IsLookedBefore};
-ghost use Rattle.ics_series.specs.NearDays.{first_near, last_near, HasOffsets, IsNearDay};
-ghost use Rattle.ics_series.specs.Inner.Offsets.{AreOffsets};
+ghost use Rattle.ics_days.specs.NearDays.{first_near, last_near, HasOffsets, IsNearDay};
+ghost use Rattle.ics_days.specs.Offsets.{AreOffsets};
 ghost use Rattle.ics_listing.specs.Entry.{key_rank, Entry};
 ghost use Rattle.ics_series.specs.HeldMost.{held_most};
 ghost use Rattle.ics_listing.specs.Listing.{IsIn, IsListing};
+ghost use Rattle.ics_series.specs.Inner.Kept.{kept-prop, AreKept};
 ghost use Rattle.ics_series.specs.Inner.Marks.{marks-prop, AreMarks};
 ghost use Rattle.ics_starts.specs.MeetsWindow.{Meets};
 ghost use Rattle.ics_series.specs.PlacedEvents.{Placed};
-ghost use Rattle.ics_series.specs.Inner.SpanLaws.{offsets-prop, spans-after-prop, those-chosen-prop, AreThoseChosen};
-ghost use Rattle.ics_series.specs.Inner.Spans.{can_meet, first_of, floor_of, span_at, AreSpansAfter, IsStartedBy};
+ghost use Rattle.ics_series.specs.Inner.HasPlaces.{count_of, places-prop, HasPlaces, HasPlacesAfter};
+ghost use Rattle.ics_series.specs.Inner.SpanLaws.{labels-set, offsets-prop, spans-after-prop, those-chosen-prop, AreThoseChosen};
+ghost use Rattle.ics_series.specs.Inner.Spans.{can_meet, floor_of, span_at, AreSpansAfter, IsStartedBy};
 ghost use Rattle.ics_listing.specs.Tokens.{IsDayKey};
-ghost use Rattle.ics_series.specs.Versions.{seen, AreChosen};
+ghost use Rattle.ics_series.specs.Versions.{is_override, seen, AreChosen};
 ghost use Rattle.ics_series.specs.declared.span.Span.{Span};
 ghost use Rattle.ics_listing.specs.declared.window.Window.{Window};
 
 use crate::agenda::Agenda;
-use crate::chosen::chosen;
-use crate::date::{bounds_in, date_at, first_shown, last_shown};
+use crate::chosen::{chosen, overrides};
+use crate::kept::{add_kept, give_back};
 use crate::marks::add_places;
-use crate::near_days::{DAY, last_near, near_day};
-use crate::occurrence_days::is_today;
+use crate::near_places::NearPlaces;
 use crate::span::{Span, spans};
 use crate::version::Version;
+use ics_days::{bounds_in, date_at, first_shown, is_today, last_near, last_shown, near_day};
 use ics_file::FileEvents;
 use ics_listing::{DayKey, Feed, Key, Occurrence, Window};
-use ics_starts::Mark;
+use ics_starts::{KeptLocals, Mark};
 use ics_values::{Local, Moment};
 use ics_zone::{Bounds, Display};
 use std::alloc::{AllocError, Global};
+
+/// A day, in seconds.
+const DAY: i64 = 86_400;
 
 /// The occurrences of a folder that meet a window, each under each of its days there, by day and then
 /// in the order of their keys. Of the days only one is looked at, and for each the events that start once
@@ -63,18 +68,30 @@ pub struct Days<'a> {
     // The versions that count, and from when to when they are, of what is not over before today.
     versions: Vec<Version<'a>>,
     spans: Vec<Span>,
+    // Those of the versions that override an instance.
+    overrides: Vec<Version<'a>>,
+    // The places of the versions of which something can be near the day, and of those that begin later.
+    places: NearPlaces,
     // Where the searches of the rules began near the day before.
     marks: Vec<Option<Mark>>,
+    // What the searches near the days before have found of the rules of events that last long.
+    kept: Vec<Option<Box<KeptLocals<'a>>>>,
     today: Today<'a>,
     ghost chosen: { AreThoseChosen (map said_by files.now) (display_clock display.now) versions.items } by { those-chosen-prop (map said_by files.now)
         (display_clock display.now) versions.items },
     ghost sized: { length spans.items ≡ length versions.items },
+    ghost overriding: { map seen overrides.items ≡ filter is_override (map seen versions.items) } by { labels-set (map seen overrides.items)
+        (filter is_override (map seen versions.items)) },
+    ghost counted: { count_of places ≡ length versions.items },
     ghost bounded: { HasOffsets (display_clock display.now) window bounds } by { offsets-prop (display_clock display.now) window bounds },
     ghost spanned: { AreSpansAfter (map said_by files.now) (display_clock display.now) bounds window today.day (map seen versions.items)
         spans.items } by { spans-after-prop (map said_by files.now) (display_clock display.now) bounds window today.day
             (map seen versions.items) spans.items },
+    ghost reached: { HasPlacesAfter window bounds today.day places spans.items } by { places-prop window bounds today.day places spans.items },
     ghost marked: { AreMarks (map said_by files.now) (map seen versions.items) marks.items } by { marks-prop (map said_by files.now)
         (map seen versions.items) marks.items },
+    ghost known: { AreKept (map said_by files.now) (display_clock display.now) kept.items } by { kept-prop (map said_by files.now)
+        (display_clock display.now) kept.items },
     ghost not_before: { first_near window bounds ≤ℤ today.day },
     ghost begun: { day_of_key (first_near window bounds) after ≤ℤ today.day },
     ghost masters: { ∥ AreDayMasters (scope_in (map said_by files.now) (display_clock display.now) bounds window after) today.day
@@ -119,15 +136,20 @@ impl<'a> Days<'a> {
             → IsOnDay (map said_by files.entry.now) (display_clock display.entry.now) window p → IsDayKey (day_rank_of p)) }
     {
         let versions = chosen(alloc, files, display)?;
+        let overrides = overrides(alloc, &versions)?;
         let mut spans = spans(alloc, files, display, &versions, &window)?;
+        let mut near = NearPlaces::new(alloc, &spans)?;
         let mut marks = Vec::new(alloc);
         add_places(&mut marks, versions.len())?;
+        let mut kept = Vec::new(alloc);
+        add_kept(&mut kept, versions.len())?;
         let bounds = bounds_in(display, &window);
         let last = last_shown(display, bounds, &window);
         let floor = key_below(alloc, &window);
         let (day, key) = begin(display, bounds, &window, after, &floor);
         let agenda = Days::agenda_of(
-            alloc, files, display, &versions, &mut spans, &mut marks, &window, bounds, day, key,
+            alloc, files, display, &versions, &overrides, &mut near, &mut spans, &mut marks,
+            &mut kept, &window, bounds, day, key,
         )?;
         Ok(Days {
             alloc,
@@ -140,7 +162,10 @@ impl<'a> Days<'a> {
             floor,
             versions,
             spans,
+            overrides,
+            places: near,
             marks,
+            kept,
             today: Today {
                 day,
                 agenda,
@@ -155,22 +180,32 @@ impl<'a> Days<'a> {
         files: &'a [FileEvents],
         display: &'a Display,
         versions: &[Version<'a>],
+        overrides: &[Version<'a>],
+        places: &mut NearPlaces,
         spans: &mut Vec<Span>,
         marks: &mut Vec<Option<Mark>>,
+        kept: &mut Vec<Option<Box<KeptLocals<'a>>>>,
         window: &Window,
         bounds: Bounds,
         day: i32,
         key: Option<&Key>,
     ) -> Result<Agenda<'a>, AllocError>
         requires chosen { AreChosen (map said_by files.now) (display_clock display.now) versions.now }
+        requires overrides { map seen overrides.now ≡ filter is_override (map seen versions.now) }
+        requires count { count_of places.old ≡ length versions.now }
+        requires places { (w : Window) → HasPlaces places.old spans.old.items w }
         requires spans { spans.old.items ≡ map (span_at (map said_by files.now) (display_clock display.now) window.now) (map seen versions.now) }
         requires marks { AreMarks (map said_by files.now) (map seen versions.now) marks.old.items }
+        requires kept { AreKept (map said_by files.now) (display_clock display.now) kept.old.items }
         requires bounded { HasOffsets (display_clock display.now) window.now bounds }
         requires first { first_near window.now bounds ≤ℤ day }
         ensures size { length spans.new.items ≡ length spans.old.items }
+        ensures count { count_of places.new ≡ count_of places.old }
+        ensures places { HasPlacesAfter window.now bounds day places.new spans.new.items }
         ensures spans { AreSpansAfter (map said_by files.entry.now) (display_clock display.entry.now) bounds window.now day
             (map seen versions.entry.now) spans.new.items }
         ensures marks { AreMarks (map said_by files.entry.now) (map seen versions.entry.now) marks.new.items }
+        ensures kept { AreKept (map said_by files.entry.now) (display_clock display.entry.now) kept.new.items }
         ensures agenda { IfOk result (λ agenda. IsNearAgenda (map said_by files.entry.now) (display_clock display.entry.now)
             (IsNearDay (display_clock display.entry.now) window.now bounds day)
             (option_map (λ key. key_rank key.now) key.entry) (agenda_coming agenda) (agenda_sources agenda)
@@ -180,8 +215,20 @@ impl<'a> Days<'a> {
             return Agenda::ended(alloc);
         }
         let near = near_day(display, window, bounds, day);
+        places.reach(spans, &near)?;
         Agenda::of(
-            alloc, files, display, versions, spans, marks, near, key, None,
+            alloc,
+            files,
+            display,
+            versions,
+            overrides,
+            &places.near,
+            spans,
+            marks,
+            kept,
+            near,
+            key,
+            None,
         )
     }
 
@@ -276,7 +323,8 @@ impl<'a> Days<'a> {
     {
         let looked = self.today.looked.saturating_add(self.today.agenda.steps());
         self.today.looked = looked;
-        self.today.agenda.end();
+        let leads = self.today.agenda.end(self.alloc);
+        give_back(&mut self.kept, leads);
     }
 
     /// Goes on to the next day on which something can be. What was looked at for the day is counted.
@@ -291,6 +339,7 @@ impl<'a> Days<'a> {
         ensures ahead { (list : List OnDay) → IsAhead self.old list → IsAhead self.new list }
     {
         let day = next_day(
+            &self.places,
             &self.spans,
             &self.window,
             self.bounds,
@@ -298,14 +347,18 @@ impl<'a> Days<'a> {
             self.today.day,
         );
         let near = near_day(self.display, &self.window, self.bounds, day);
+        self.places.reach(&self.spans, &near)?;
         let key = key_near(self.display, &self.window, self.bounds, day, &self.floor);
         let agenda = Agenda::of(
             self.alloc,
             self.files,
             self.display,
             &self.versions,
+            &self.overrides,
+            &self.places.near,
             &mut self.spans,
             &mut self.marks,
+            &mut self.kept,
             near,
             key,
             floor_of(&self.window),
@@ -317,11 +370,19 @@ impl<'a> Days<'a> {
 }
 
 /// The next day near which something can be, or the last.
-fn next_day(spans: &[Span], window: &Window, bounds: Bounds, last: i32, day: i32) -> i32
+fn next_day(
+    places: &NearPlaces,
+    spans: &[Span],
+    window: &Window,
+    bounds: Bounds,
+    last: i32,
+    day: i32,
+) -> i32
     requires offsets { AreOffsets bounds }
     requires low { first_near window.now bounds ≤ℤ day }
     requires last { last ≤ℤ last_near window.now bounds }
     requires more { day <ℤ last }
+    requires places { HasPlacesAfter window.now bounds day places.now spans.now }
     ensures later { day <ℤ result }
     ensures last { result ≤ℤ last }
     ensures none { (x : ℤ) → day <ℤ x → x <ℤ result → (s : Span) → IsIn s spans.now → (clock : Clock) (n : Window)
@@ -329,32 +390,9 @@ fn next_day(spans: &[Span], window: &Window, bounds: Bounds, last: i32, day: i32
 {
     let next = day + 1;
     let from = i64::from(next) * DAY - bounds.most;
-    let first = first_after(spans, window.to, from).max(window.from);
+    let first = places.first(spans, window.to, from).max(window.from);
     let reached = Local::of_seconds(first + bounds.least).day;
     reached.max(next).min(last)
-}
-
-/// The first instant at which something can begin of what has not ended before an instant, or the end if
-/// that is earlier.
-fn first_after(spans: &[Span], end: Moment, from: Moment) -> Moment
-    ensures { result ≡ first_of from end spans.now }
-{
-    let mut first = end;
-    for span in spans {
-        first = sooner(first, span, from);
-    }
-    first
-}
-
-/// The earlier of an instant and of the beginning of a span that has not ended before another.
-fn sooner(first: Moment, span: &Span, from: Moment) -> Moment
-    ensures { result ≡ (if int_le from span.now.last then int_min first span.now.first else first) }
-{
-    if from <= span.last {
-        first.min(span.first)
-    } else {
-        first
-    }
 }
 
 /// The day with which a listing begins, and the key after which it does there.

@@ -5,7 +5,7 @@ ghost use Rattle.ics_file.specs.File.{said_by};
 ghost use Rattle.ics_listing.specs.After.{after_key};
 ghost use Rattle.ics_series.specs.Ahead.{scope_of, IsAhead};
 ghost use Rattle.ics_starts.specs.Clocks.{display_clock};
-ghost use Rattle.ics_series.specs.NearDays.{HasOffsets};
+ghost use Rattle.ics_days.specs.NearDays.{HasOffsets};
 ghost use Rattle.ics_listing.specs.DayKeys.{day_key_rank, day_rank_of, after_day_key, on_day_cmp, OnDay};
 ghost use Rattle.ics_series.specs.OnDays.{IsOnDay};
 ghost use Rattle.ics_series.specs.DaySteps.{scope_by, AreMasters};

@@ -3,15 +3,14 @@
 
 mod agenda;
 mod chosen;
-mod date;
 mod day_laws;
 mod days;
 mod folder;
+mod kept;
 mod laws;
 mod marks;
 mod masters;
-mod near_days;
-mod occurrence_days;
+mod near_places;
 mod part;
 mod prepare;
 mod singles;
@@ -21,10 +20,10 @@ mod version;
 mod versions;
 
 pub use agenda::Agenda;
-pub use date::date_at;
 pub use day_laws::{day_listing_behind, one_day_listing};
 pub use days::Days;
 pub use folder::Folder;
+pub use ics_days::date_at;
 pub use ics_listing::{
     Begins, Coming, DayKey, DayToken, Feed, Key, Merge, Occurrence, Token, TokenFault, Window,
     day_keys_as_listed, keys_as_listed, listing_merged, one_day_spelling, one_spelling,

@@ -12,9 +12,11 @@ ghost use Rattle.ics_listing.specs.After.{is_after};
 ghost use Rattle.ics_listing.specs.Entry.{entry_cmp, key_rank, Entry};
 ghost use Rattle.ics_listing.specs.Listing.{IsListing};
 ghost use Rattle.ics_listing.specs.Rising.{Rises};
+ghost use Rattle.ics_series.specs.Inner.Kept.{AreKept};
 ghost use Rattle.ics_series.specs.Inner.Marks.{AreMarks};
 ghost use Rattle.ics_starts.specs.RuleMarks.{IsBegun, IsMarkOf};
 ghost use Rattle.ics_series.specs.Inner.Masters.{AreFrom, HasLists, HasSources, IsBehind, IsOfVersion, IsSince, IsSourceOf, Recurs, named_by};
+ghost use Rattle.ics_series.specs.Inner.NearPlaces.{AreNear, AreSameBut};
 ghost use Rattle.ics_series.specs.AgendaParts.{part_coming, part_sources};
 ghost use Rattle.ics_starts.specs.SeriesFeed.{series_left, series_of, series_sources, IsSameSeries};
 ghost use Rattle.ics_starts.specs.SingleEvents.{is_single};
@@ -26,21 +28,22 @@ ghost use Rattle.ics_series.specs.Inner.Spans.{AreMovedOn, AreSpans, IsMovedOn, 
 ghost use Rattle.ics_series.specs.Spots.{event_at};
 ghost use Rattle.ics_series.specs.Versions.{seen, subject_cmp, AreChosen};
 
+use crate::kept::take_kept;
 use crate::marks::{mark_at, put_mark};
 use crate::part::Part;
 use crate::span::{Span, first_at, is_out, put_span};
 use crate::version::Version;
 use ics_file::FileEvents;
 use ics_listing::{Coming, Key, Window};
-use ics_starts::{Mark, Replaced, Series, is_single};
+use ics_starts::{KeptLocals, Mark, Replaced, Series, is_single};
 use ics_values::Moment;
 use ics_zone::Display;
 use std::alloc::{AllocError, Global};
 use std::cmp::Ordering;
 
 /// Adds a feed for each version that counts and whose event recurs: its occurrences that meet the
-/// window and, with a key, come after it, but for those that overrides replace. Those of versions whose
-/// spans cannot meet the window are left out. The searches of rules under COUNT go on from their marks, and
+/// window and, with a key, come after it, but for those that overrides replace. Those of versions that are at none
+/// of the near places, or whose spans cannot meet the window, are left out. The searches of rules under COUNT go on from their marks, and
 /// all leave a mark where they began. No feed begins before the span of its version. Where nothing of a version
 /// meets the window, its span is moved on.
 pub(crate) fn push_series<'a>(
@@ -49,19 +52,25 @@ pub(crate) fn push_series<'a>(
     files: &'a [FileEvents],
     display: &'a Display,
     chosen: &[Version<'_>],
+    near: &[usize],
     spans: &mut Vec<Span>,
     marks: &mut Vec<Option<Mark>>,
+    kept: &mut Vec<Option<Box<KeptLocals<'a>>>>,
     window: Window,
     after: Option<&Key>,
     floor: Option<Moment>,
 ) -> Result<(), AllocError>
     requires chosen { AreChosen (map said_by files.now) (display_clock display.now) chosen.now }
     requires spans { AreSpans (map said_by files.now) (display_clock display.now) window floor (map seen chosen.now) spans.old.items }
+    requires near { AreNear spans.old.items window (length chosen.now) near.now }
     requires floor { (o : Entry) → is_after (option_map (λ key. key_rank key.now) after) o ≡ true → IsStartedBy floor o }
     requires marks { AreMarks (map said_by files.now) (map seen chosen.now) marks.old.items }
+    requires kept { AreKept (map said_by files.now) (display_clock display.now) kept.old.items }
     ensures spans { AreMovedOn (map said_by files.entry.now) (display_clock display.entry.now) window floor (map seen chosen.entry.now)
         spans.old.items spans.new.items }
+    ensures others { AreSameBut near.entry.now spans.old.items spans.new.items }
     ensures marks { AreMarks (map said_by files.entry.now) (map seen chosen.entry.now) marks.new.items }
+    ensures kept { AreKept (map said_by files.entry.now) (display_clock display.entry.now) kept.new.items }
     ensures lists { IfOk result (λ _. HasLists (map said_by files.entry.now) (display_clock display.entry.now) window
         (option_map (λ key. key_rank key.now) after.entry) (map seen chosen.entry.now)
         (map part_coming parts.old.items) (map part_coming parts.new.items)) }
@@ -69,7 +78,8 @@ pub(crate) fn push_series<'a>(
         (option_map (λ key. key_rank key.now) after.entry) (map seen chosen.entry.now)
         (flat_map part_sources parts.old.items) (flat_map part_sources parts.new.items)) }
 {
-    for place in 0..chosen.len() {
+    for place in near {
+        let place = *place;
         if is_out(spans, place, &window) {
             continue;
         }
@@ -80,7 +90,7 @@ pub(crate) fn push_series<'a>(
         let mark = mark_at(marks, place);
         let begin = first_at(spans, place);
         if let Some(mut series) = series_at(
-            alloc, files, display, chosen, place, mark, window, after, begin,
+            alloc, files, display, chosen, place, mark, kept, window, after, begin,
         )? {
             let begun = series.mark();
             move_on(spans, place, floor, &mut series)?;
@@ -129,6 +139,7 @@ fn series_at<'a>(
     chosen: &[Version<'_>],
     place: usize,
     mark: Option<Mark>,
+    kept: &mut Vec<Option<Box<KeptLocals<'a>>>>,
     window: Window,
     after: Option<&Key>,
     begin: Moment,
@@ -139,6 +150,8 @@ fn series_at<'a>(
         → event_at (map said_by files.now) version.spot ≡ Some event → IsMarkOf event mark }
     requires begin { (version : Version) → slice_get chosen.now place ≡ Some version → AreFrom (map said_by files.now) (display_clock display.now) window
         (option_map (λ key. key_rank key.now) after) (seen version) begin }
+    requires kept { AreKept (map said_by files.now) (display_clock display.now) kept.old.items }
+    ensures kept { AreKept (map said_by files.entry.now) (display_clock display.entry.now) kept.new.items }
     ensures series { (version : Version) → slice_get chosen.entry.now place ≡ Some version → IfOk result (λ given. MatchOption given
         (Recurs (map said_by files.entry.now) (seen version) → ⊥)
         (λ series. IsListing entry_cmp (IsOfVersion (map said_by files.entry.now) (display_clock display.entry.now) window
@@ -160,6 +173,7 @@ fn series_at<'a>(
     let zones = version.spot.zones(files, display);
     let since = since_of(after, event.uid.as_slice());
     let replaced = replaced_at(alloc, chosen, place)?;
+    let known = take_kept(alloc, kept, place, event);
     let series = Series::new(
         alloc,
         zones,
@@ -167,6 +181,7 @@ fn series_at<'a>(
         window,
         since.max(begin),
         mark,
+        known,
         replaced,
     )?;
     Ok(Some(series))

@@ -2,7 +2,7 @@
 
 use crate::singles::Singles;
 use ics_listing::{Begins, Coming, Feed, Holding, Occurrence};
-use ics_starts::Series;
+use ics_starts::{KeptLocals, Series};
 use ics_values::Moment;
 use std::alloc::AllocError;
 
@@ -12,6 +12,23 @@ use std::alloc::AllocError;
 pub(crate) enum Part<'a> {
     Singles(Singles<'a>),
     Series(Box<Series<'a>>),
+}
+
+impl<'a> Part<'a> {
+    ghost use Rattle.std.specs.Prelude.{List};
+    ghost use Rattle.ics_file.specs.File.{FileSaid};
+    ghost use Rattle.ics_listing.specs.FileClocks.{Clock};
+    ghost use Rattle.ics_series.specs.Inner.Kept.{IsKeptIn, IsPartOf};
+
+    /// What is known of the rule that it was searched by, if that is kept.
+    pub(crate) fn into_kept(self) -> Option<Box<KeptLocals<'a>>>
+        ensures { (files : List FileSaid) (display : Clock) → IsPartOf files display self.entry → IsKeptIn files display result }
+    {
+        match self {
+            Part::Singles(_) => None,
+            Part::Series(series) => Box::into_inner(series).into_kept(),
+        }
+    }
 }
 
 impl<'a> Coming for Part<'a> {

@@ -52,6 +52,9 @@ fn prepare_file(file: &mut FileEvents, window: &Window, every_day: bool)
         learn_each(file);
     }
     prepare_named(file, window, every_day);
+    if every_day {
+        reach_periods(file);
+    }
     if any_lasts {
         hold_through_each(file, window, every_day);
     }
@@ -116,6 +119,32 @@ fn prepare_named(file: &mut FileEvents, window: &Window, every_day: bool)
         last = Some(asked);
         if let Some(zone) = file.zones.get_mut(index as usize) {
             prepare(zone, asked.1);
+        }
+    }
+}
+
+/// The zones of events hold the spans near their PERIODs: one that runs for many days is asked for again and again.
+fn reach_periods(file: &mut FileEvents)
+    ensures { file.new ≡ file.old }
+{
+    for k in 0..file.events.len() {
+        let event = &file.events[k];
+        let Some(index) = event.start.zone else {
+            continue;
+        };
+        if let Some(zone) = file.zones.get_mut(index as usize) {
+            reach_each(zone, &event.rdates);
+        }
+    }
+}
+
+/// A zone holds the spans near the PERIODs among these RDATEs.
+fn reach_each(zone: &mut Zone, rdates: &[Rdate])
+    ensures { zone.new ≡ zone.old }
+{
+    for rdate in rdates {
+        if let Rdate::Span(start, _) = rdate {
+            zone.reach(local_of(start.stamp).seconds()).ok();
         }
     }
 }

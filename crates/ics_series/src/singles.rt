@@ -1,5 +1,5 @@
 //! The occurrences of the events of a folder that start once.
-ghost use Rattle.std.specs.Prelude.{◌≡◌, filter, map, IfOk, IsSome, ℤ, Option};
+ghost use Rattle.std.specs.Prelude.{◌≡◌, filter, length, map, IfOk, IsSome, ℤ, Option};
 ghost use Rattle.std.specs.List.{filter_map};
 ghost use Rattle.std.specs.List.Sorted.{IsSorted};
 ghost use Rattle.std.specs.Option.{option_map};
@@ -12,6 +12,7 @@ ghost use Rattle.ics_listing.specs.Listing.{IsListing};
 ghost use Rattle.ics_listing.specs.Rising.{Rises, Rises-prop};
 ghost use Rattle.ics_starts.specs.SingleEvents.{is_single, single_entry};
 ghost use Rattle.ics_series.specs.Singles.{is_to_come, single_at, AreSingle, AreSingle-prop, IsSingleToCome};
+ghost use Rattle.ics_series.specs.Inner.NearPlaces.{AreNear};
 ghost use Rattle.ics_series.specs.Inner.Spans.{AreSpans};
 ghost use Rattle.ics_series.specs.Spots.{event_at};
 ghost use Rattle.ics_series.specs.Versions.{is_override, seen, subject_cmp, subject_seen, AreChosen};
@@ -37,12 +38,13 @@ pub(crate) struct Singles<'a> {
 }
 
 impl<'a> Singles<'a> {
-    /// Those of the versions that count that meet the window and, with a key, come after it.
+    /// Those of the versions that count that meet the window and, with a key, come after it. They are at the near places.
     pub(crate) fn new(
         alloc: Global,
         files: &'a [FileEvents],
         display: &'a Display,
         chosen: &[Version<'_>],
+        near: &[usize],
         spans: &[Span],
         overrides: &[Version<'_>],
         window: &Window,
@@ -50,6 +52,7 @@ impl<'a> Singles<'a> {
     ) -> Result<Singles<'a>, AllocError>
         requires chosen { AreChosen (map said_by files.now) (display_clock display.now) chosen.now }
         requires spans { (floor : Option ℤ) × AreSpans (map said_by files.now) (display_clock display.now) window.now floor (map seen chosen.now) spans.now }
+        requires near { AreNear spans.now window.now (length chosen.now) near.now }
         requires overrides { map seen overrides.now ≡ filter is_override (map seen chosen.now) }
         ensures { IfOk result (λ singles. IsListing entry_cmp
             (IsSingleToCome (map said_by files.entry.now) (display_clock display.entry.now) window.now
@@ -57,7 +60,7 @@ impl<'a> Singles<'a> {
             (⟦<Singles<'a> as Coming>⟧.coming singles)) }
     {
         let mut singles = to_come(
-            alloc, files, display, chosen, spans, overrides, window, after,
+            alloc, files, display, chosen, near, spans, overrides, window, after,
         )?;
         singles.sort_unstable_by(Single::compare);
         Ok(Singles {
@@ -99,13 +102,14 @@ impl<'a> Feed<'a> for Singles<'a> {
     }
 }
 
-/// Those of the versions that count, in the order of their subjects. What cannot meet the window by its
-/// span is not looked at.
+/// Those of the versions that count, in the order of their subjects. What is at none of the near places, or
+/// cannot meet the window by its span, is not looked at.
 fn to_come<'a>(
     alloc: Global,
     files: &'a [FileEvents],
     display: &'a Display,
     chosen: &[Version<'_>],
+    near: &[usize],
     spans: &[Span],
     overrides: &[Version<'_>],
     window: &Window,
@@ -113,13 +117,15 @@ fn to_come<'a>(
 ) -> Result<Vec<Single<'a>>, AllocError>
     requires chosen { AreChosen (map said_by files.now) (display_clock display.now) chosen.now }
     requires spans { (floor : Option ℤ) × AreSpans (map said_by files.now) (display_clock display.now) window.now floor (map seen chosen.now) spans.now }
+    requires near { AreNear spans.now window.now (length chosen.now) near.now }
     requires overrides { IsSorted (on (λ v. subject_seen v.subject) subject_cmp) overrides.now }
     ensures { IfOk result (λ singles. map single_entry singles.items
         ≡ filter_map (single_at (map said_by files.entry.now) (display_clock display.entry.now) window.now
         (map seen overrides.entry.now) (option_map (λ key. key_rank key.now) after.entry)) (map seen chosen.entry.now)) }
 {
     let mut singles = Vec::new(alloc);
-    for place in 0..chosen.len() {
+    for place in near {
+        let place = *place;
         if is_out(spans, place, window) {
             continue;
         }

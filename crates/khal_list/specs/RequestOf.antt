@@ -9,7 +9,7 @@ use Rattle.ics_zone.specs.DisplayTexts.{display_of}
 use Rattle.ics_zone.specs.ZoneSaid.{ZoneSaid, display_said}
 use Rattle.ics_starts.specs.Clocks.{zone_clock}
 use Rattle.ics_listing.specs.DayKeys.{day_key_rank, DayRank}
-use Rattle.ics_series.specs.OnDays.{date_at}
+use Rattle.ics_days.specs.ShownDays.{date_at}
 use Rattle.ics_listing.specs.Tokens.{day_spelling, IsDayKey, IsDayToken, spelling, IsKey, IsToken}
 use Rattle.ics_listing.specs.Entry.{key_rank}
 use Rattle.ics_listing.specs.declared.day_key.DayKey.{DayKey}

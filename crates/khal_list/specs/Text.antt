@@ -14,7 +14,7 @@ use Rattle.ics_listing.specs.FileClocks.{Clock}
 use Rattle.ics_starts.specs.Clocks.{local_at}
 use Rattle.ics_listing.specs.Entry.{Entry, rank_of}
 use Rattle.ics_listing.specs.DayKeys.{on_day, OnDay, day_rank_of}
-use Rattle.ics_series.specs.OnDays.{date_at}
+use Rattle.ics_days.specs.ShownDays.{date_at}
 use Rattle.ics_listing.specs.Tokens.{day_spelling, spelling}
 use Rattle.khal_words.specs.declared.field.EntryField.{EntryField}
 use Rattle.khal_words.specs.declared.field.EntryField.TheVariants.{Cell, StartTime, EndTime, StartDate, EndDate, Uid, Cancelled, StartUnix, EndUnix}

@@ -14,7 +14,7 @@ use Rattle.ics_listing.specs.Listing.{IsListing}
 use Rattle.ics_series.specs.Inner.Spans.{floor_of, AreSpansAfter, IsKeptFrom, IsSpanOf, NoneMeets}
 use Rattle.ics_series.specs.PlacedEvents.{Placed, clocks_at}
 use Rattle.ics_series.specs.Versions.{by_subject, label_of, seen, Label}
-use Rattle.ics_series.specs.NearDays.{HasOffsets}
+use Rattle.ics_days.specs.NearDays.{HasOffsets}
 use Rattle.ics_zone.specs.declared.bounds.Bounds.{Bounds}
 
 -- the versions are those of the events that count, in the order of their subjects
@@ -22,7 +22,8 @@ abbrev pub AreThoseChosen : List FileSaid → Clock → List Version → Type 0
 AreThoseChosen files display versions =
     (chosen : List Placed) → IsListing (by_subject files display) (IsChosen files display) chosen → map seen versions ≡ map (label_of files display) chosen
 
-labels-set : (a b : List Label) → IsProp (a ≡ b)
+-- labels are told apart
+pub labels-set : (a b : List Label) → IsProp (a ≡ b)
 labels-set a b = hlevel (props, codes)
 
 pub those-chosen-prop : (files : List FileSaid) (display : Clock) (versions : List Version) → IsProp (AreThoseChosen files display versions)

@@ -1,8 +1,8 @@
 -- From when to when the events of a folder are, so that they need not be read for a window that they cannot meet.
-use Rattle.std.specs.Prelude.{◌≡◌, ◌⊎◌, ◌<ℤ◌, ◌≤ℤ◌, ◌-ℤ◌, ℕ, ℤ, pos, negsuc, Bool, true, false, ◌&&◌, not, int_le, int_lt, if◌then◌else◌, List, [], ◌∷◌, length}
+use Rattle.std.specs.Prelude.{◌≡◌, ◌⊎◌, ◌<ℤ◌, ◌≤ℤ◌, ◌-ℤ◌, ℕ, ℤ, pos, negsuc, Bool, true, false, ◌&&◌, not, int_le, int_lt, if◌then◌else◌, List, [], length}
 use Rattle.std.specs.Prelude.{slice_get}
 use Rattle.std.specs.Prelude.{Option, Some, None}
-use Rattle.std.specs.Int.{int_max, int_min}
+use Rattle.std.specs.Int.{int_max}
 use Rattle.std.specs.Option.{unwrap_or}
 use Rattle.ics_file.specs.File.{FileSaid}
 use Rattle.ics_event.specs.declared.event.Event.{Event}
@@ -18,7 +18,7 @@ use Rattle.ics_listing.specs.WindowBounds.{occurrence_first}
 use Rattle.ics_listing.specs.WindowMeeting.{is_met}
 use Rattle.ics_starts.specs.MeetsWindow.{Meets}
 use Rattle.ics_starts.specs.Instances.{IsOf}
-use Rattle.ics_series.specs.NearDays.{IsNearDay}
+use Rattle.ics_days.specs.NearDays.{IsNearDay}
 use Rattle.ics_series.specs.Inner.Masters.{IsUnreplaced}
 use Rattle.ics_series.specs.PlacedEvents.{clocks_at}
 use Rattle.ics_starts.specs.SingleEvents.{entry_first, is_single}
@@ -138,8 +138,3 @@ pub record IsPutOff (clocks : Clocks) (event : Event) (w : Window) (since : ℤ)
 -- it is so, or the spans are those from before
 abbrev pub IsMovedOn : Clocks → Event → Window → ℤ → Option ℤ → List Entry → List Span → ℕ → List Span → Type 0
 IsMovedOn clocks event w since floor coming old place new = (new ≡ old) ⊎ IsPutOff clocks event w since floor coming old place new
-
--- the least of an instant and of the beginnings of those spans that do not end before `from`
-abbrev pub first_of : ℤ → ℤ → List Span → ℤ
-first_of from least [] = least
-first_of from least (s ∷ spans) = first_of from (if int_le from s.last then int_min least s.first else least) spans

@@ -1,10 +1,10 @@
-use Rattle.std.proofs.Common.{◌≡◌, map, rules, subst}
+use Rattle.std.proofs.Common.{map, rules}
 use Rattle.std.specs.Ordering.{on}
 use Rattle.std.proofs.lemmas.Cmp.{on_total}
 use Rattle.std.proofs.lemmas.Result.{IfOk-weaker}
 use Rattle.ics_file.specs.File.{said_by}
 use Rattle.ics_starts.specs.Clocks.{display_clock}
-use Rattle.ics_series.specs.Versions.{AreChosen, is_same, label_cmp, lasts, seen}
+use Rattle.ics_series.specs.Versions.{AreChosen, label_cmp, seen}
 use Rattle.ics_series.specs.Inner.Whole.{AreRead}
 use Rattle.ics_series.proofs.VersionLemmas.{found, label_total}
 use Rattle.ics_listing.proofs.ListingLemmas.{climbs-by}

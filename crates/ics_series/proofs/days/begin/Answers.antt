@@ -2,7 +2,7 @@ use Rattle.std.proofs.lemmas.Grind.{common_steps}
 use Rattle.std.proofs.lemmas.Int.{ints}
 use Rattle.std.proofs.Common.{◌≡◌, ◌<ℤ◌, ◌≤ℤ◌, ◌∙◌, None, Some, ap, rules, arith, option_map, subst, sym, to_z, of_z, w32}
 use Rattle.ics_starts.specs.Clocks.{display_clock}
-use Rattle.ics_series.specs.OnDays.{date_at}
+use Rattle.ics_days.specs.ShownDays.{date_at}
 use Rattle.ics_listing.specs.Entry.{key_rank}
 use Rattle.ics_listing.specs.DayKeys.{day_key_rank, DayRank}
 use Rattle.ics_listing.proofs.Cases.{some-same}

@@ -5,7 +5,7 @@ use Rattle.ics_listing.specs.declared.window.Window.{Window}
 use Rattle.ics_starts.specs.Clocks.{display_clock}
 use Rattle.ics_zone.proofs.Cases.{int_lt_true}
 use Rattle.ics_zone.specs.Seconds.{IsNear}
-use Rattle.ics_series.proofs.NearDayLemmas.{not-early}
+use Rattle.ics_days.proofs.NearDayLemmas.{not-early}
 use Rattle.ics_series.proofs.days.is_early.Goals as goal
 
 -- the midnight that ends a day fits

@@ -3,11 +3,11 @@ use Rattle.std.proofs.Common.{sym, ◌∙◌, to_z, of_z, w32}
 use Rattle.std.proofs.lemmas.Int.{ints}
 use Rattle.ics_zone.proofs.Cases.{int_lt_true}
 use Rattle.ics_starts.specs.Clocks.{display_clock}
-use Rattle.ics_series.specs.OnDays.{date_at}
+use Rattle.ics_days.specs.ShownDays.{date_at}
 use Rattle.ics_series.specs.Inner.Spans.{floor_of, IsStartedBy}
 use Rattle.ics_listing.specs.declared.window.Window.{Window}
 use Rattle.ics_listing.specs.Entry.{Entry}
-use Rattle.ics_series.proofs.NearDayLemmas.{above-floor, begins-later, from-floor}
+use Rattle.ics_days.proofs.NearDayLemmas.{above-floor, begins-later, from-floor}
 use Rattle.ics_series.proofs.days.key_near.Goals as goal
 
 -- one of two holds

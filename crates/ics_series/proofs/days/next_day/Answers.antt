@@ -1,28 +1,21 @@
-use Rattle.std.proofs.Common.{◌≡◌, ◌≤ℤ◌, ◌-ℤ◌, ◌+ℤ◌, ℤ, List, pos, rules, refl, ap, ◌∙◌, sym, subst, arith, ◌*ℤ◌, to_z, of_z, w32, w64}
+use Rattle.std.proofs.Common.{◌≡◌, ◌≤ℤ◌, ◌-ℤ◌, ◌+ℤ◌, ℤ, length, pos, rules, refl, ◌∙◌, sym, subst, arith, ◌*ℤ◌, to_z, of_z, w32, w64}
 use Rattle.std.specs.Int.{int_max, int_min}
 use Rattle.std.proofs.lemmas.Int.{int_max_is, int_min_is, ints, to_z-of_z}
+use Rattle.std.proofs.lemmas.Option.{slice_get_read}
+use Rattle.ics_listing.proofs.ListingLemmas.{contains-in}
 use Rattle.ics_zone.specs.Seconds.{IsDay, IsNear}
 use Rattle.ics_fields.specs.Locals.{midnight}
-use Rattle.ics_series.specs.NearDays.{last_near}
-use Rattle.ics_series.specs.Inner.Spans.{first_of}
-use Rattle.ics_series.specs.declared.span.Span.{Span}
+use Rattle.ics_days.specs.NearDays.{last_near}
 use Rattle.ics_listing.specs.declared.window.Window.{Window}
-use Rattle.ics_series.proofs.NearDayLemmas.{day-fits}
-use Rattle.ics_series.proofs.SpanLemmas.{first-most, none-near}
+use Rattle.ics_days.proofs.NearDayLemmas.{day-fits}
+use Rattle.ics_series.proofs.SpanLemmas.{near-between}
 use Rattle.ics_series.proofs.days.next_day.Goals as goal
 
 -- what can begin first, in the window, does so in it
-first-in : (w : Window) (spans : List Span) (from : ℤ) {end least first : ℤ} → least ≡ first_of from end spans → end ≡ w.to → first ≡ int_max least w.from
-    → (w.from ≤ℤ first) × (first ≤ℤ w.to)
-first-in w spans from {end = end} {least = least} e t is =
-    let most = first-most from end spans in
+first-in : (w : Window) {end least first : ℤ} → least ≤ℤ end → end ≡ w.to → first ≡ int_max least w.from → (w.from ≤ℤ first) × (first ≤ℤ w.to)
+first-in w {least = least} most t is =
     let max = int_max_is least w.from in
-    (omega (arith, ints, is, max), omega (arith, ints, e, t, most, is, max, w.ordered))
-
-first-is : (w : Window) (spans : List Span) {from begin end least first : ℤ} → least ≡ first_of from end spans → end ≡ w.to → first ≡ int_max least w.from
-    → from ≡ begin → first ≡ int_max (first_of begin w.to spans) w.from
-first-is w spans {from = from} e t is f =
-    is ∙ ap (λ l. int_max l w.from) (e ∙ (ap (λ x. first_of from x spans) t ∙ ap (λ x. first_of x w.to spans) f))
+    (omega (arith, ints, is, max), omega (arith, ints, t, most, is, max, w.ordered))
 
 -- the ends of a window fit
 ends-fit : (w : Window) → (to_z w64 (of_z w64 w.from) ≡ w.from) × (to_z w64 (of_z w64 w.to) ≡ w.to)
@@ -52,11 +45,11 @@ pub overflow_add-first : goal.overflow_add-first
 overflow_add-first c =
     let w = c.args.window.now in
     let ends = ends-fit w in
-    let least : to_z w64 (of_z w64 c.first_after.result) ≡ c.first_after.result =
-    to_z-of_z w64 c.first_after.result (record { sfits = c.first_after.type_inv }) in
-    let first : to_z w64 (of_z w64 c.max-first.result) ≡ int_max c.first_after.result c.args.window.now.from =
+    let least : to_z w64 (of_z w64 c.first.result) ≡ c.first.result =
+    to_z-of_z w64 c.first.result (record { sfits = c.first.type_inv }) in
+    let first : to_z w64 (of_z w64 c.max-first.result) ≡ int_max c.first.result c.args.window.now.from =
     to_z-of_z w64 c.max-first.result (record { sfits = c.max-first.type_inv }) ∙ (c.max-first.ensures.value ∙ (λ i. int_max (least i) (ends.0 i))) in
-    let within = first-in w c.args.spans.now _ c.first_after.ensures ends.1 first in
+    let within = first-in w c.first.ensures.end ends.1 first in
     let short = c.requires.offsets.least_short in
     omega (arith, ints, within.0, within.1, short.0, short.1, w.not_early, w.not_late)
 
@@ -64,11 +57,11 @@ pub of_seconds-reached-requires : goal.of_seconds-reached-requires
 of_seconds-reached-requires c =
     let w = c.args.window.now in
     let ends = ends-fit w in
-    let least : to_z w64 (of_z w64 c.first_after.result) ≡ c.first_after.result =
-    to_z-of_z w64 c.first_after.result (record { sfits = c.first_after.type_inv }) in
-    let first : to_z w64 (of_z w64 c.max-first.result) ≡ int_max c.first_after.result c.args.window.now.from =
+    let least : to_z w64 (of_z w64 c.first.result) ≡ c.first.result =
+    to_z-of_z w64 c.first.result (record { sfits = c.first.type_inv }) in
+    let first : to_z w64 (of_z w64 c.max-first.result) ≡ int_max c.first.result c.args.window.now.from =
     to_z-of_z w64 c.max-first.result (record { sfits = c.max-first.type_inv }) ∙ (c.max-first.ensures.value ∙ (λ i. int_max (least i) (ends.0 i))) in
-    let within = first-in w c.args.spans.now _ c.first_after.ensures ends.1 first in
+    let within = first-in w c.first.ensures.end ends.1 first in
     let short = c.requires.offsets.least_short in
     let fits = shown-fits w (to_z w64 (of_z w64 c.max-first.result)) c.args.bounds.least within.0 within.1 short in (
       omega (arith, ints, fits, within.0, within.1, short.0, short.1, w.not_early, w.not_late),
@@ -95,18 +88,18 @@ returns-clause-last c =
     subst (λ r. r ≤ℤ c.args.last) (sym fits) (subst (λ l. c.min.result ≤ℤ l) last under)
 
 pub returns-clause-none : goal.returns-clause-none
-returns-clause-none c =
+returns-clause-none c = λ x later early s m clock n near-x.
     let w = c.args.window.now in
     let b = c.args.bounds in
     let low = c.requires.low in
     let near = day-fits w b c.requires.offsets c.args.day low (omega (arith, ints, c.requires.more, c.requires.last)) in
     let next = next-fits c.args.day near in
     let ends = ends-fit w in
-    let least : to_z w64 (of_z w64 c.first_after.result) ≡ c.first_after.result =
-    to_z-of_z w64 c.first_after.result (record { sfits = c.first_after.type_inv }) in
-    let first : to_z w64 (of_z w64 c.max-first.result) ≡ int_max c.first_after.result c.args.window.now.from =
+    let least : to_z w64 (of_z w64 c.first.result) ≡ c.first.result =
+    to_z-of_z w64 c.first.result (record { sfits = c.first.type_inv }) in
+    let first : to_z w64 (of_z w64 c.max-first.result) ≡ int_max c.first.result c.args.window.now.from =
     to_z-of_z w64 c.max-first.result (record { sfits = c.max-first.type_inv }) ∙ (c.max-first.ensures.value ∙ (λ i. int_max (least i) (ends.0 i))) in
-    let within = first-in w c.args.spans.now _ c.first_after.ensures ends.1 first in
+    let within = first-in w c.first.ensures.end ends.1 first in
     let shown = shown-fits w (to_z w64 (of_z w64 c.max-first.result)) c.args.bounds.least within.0 within.1 c.requires.offsets.least_short in
     let reached : to_z w32 (of_z w32 c.of_seconds-reached.result.day) ≡ c.of_seconds-reached.result.day = search rules in
     let fits : to_z w32 (of_z w32 c.min.result) ≡ c.min.result = to_z-of_z w32 c.min.result (record { sfits = c.min.type_inv }) in
@@ -118,7 +111,9 @@ returns-clause-none c =
     let day-is : to_z w32 (of_z w32 c.min.result) ≤ℤ int_max c.of_seconds-reached.result.day (c.args.day +ℤ pos 1) =
     subst (λ r. r ≤ℤ int_max c.of_seconds-reached.result.day (c.args.day +ℤ pos 1)) (sym fits)
     (subst (λ m. c.min.result ≤ℤ m) (max ∙ (c.max.ensures.value ∙ (λ i. int_max (reached i) (next i)))) under.0) in
-    none-near w b c.args.spans.now low most
+    let between = near-between w b low most
     (from-is c.args.day c.args.bounds.most c.from.result near c.requires.offsets.most_short c.from.ensures)
-    (first-is w c.args.spans.now c.first_after.ensures ends.1 first refl)
-    (rw shown at c.of_seconds-reached.ensures.day) day-is
+    first (rw shown at c.of_seconds-reached.ensures.day) day-is x later early clock n near-x in
+    let there = contains-in s c.args.spans.now m in
+    c.first.ensures.none n between.0 between.1 (c.requires.places clock x n later near-x) there.0 s
+    (slice_get_read c.args.spans.now (length c.args.spans.now) there.0 s refl there.1 (sym there.2))

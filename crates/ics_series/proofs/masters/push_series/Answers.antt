@@ -1,5 +1,5 @@
 use Rattle.std.proofs.lemmas.Grind.{common_steps}
-use Rattle.std.proofs.Common.{◌≡◌, List, [], ◌∷◌, ◌++◌, Vec, Global, Option, Some, map, get_or, option_map, refl, sym, subst}
+use Rattle.std.proofs.Common.{◌≡◌, ◌+◌, ◌<◌, List, [], ◌∷◌, ◌++◌, length, take, Vec, Global, Option, Some, map, get_or, option_map, refl, sym, subst}
 use Rattle.std.proofs.Common.{ap, ◌∙◌, arith, append-nil, rules, to_z, of_z, w64}
 use Rattle.std.specs.List.{flat_map}
 use Rattle.std.proofs.lemmas.Int.{ints}
@@ -18,9 +18,13 @@ use Rattle.ics_series.specs.AgendaParts.{part_coming, part_sources}
 use Rattle.ics_listing.specs.Entry.{key_rank}
 use Rattle.ics_starts.specs.FileZones.{clocks_in}
 use Rattle.ics_series.specs.Inner.Marks.{AreMarks}
-use Rattle.ics_series.specs.Inner.Masters.{AreFrom}
+use Rattle.ics_series.specs.Inner.Masters.{AreFrom, HasLists, HasSources}
+use Rattle.ics_series.specs.Inner.NearPlaces.{AreSameBut}
 use Rattle.ics_series.specs.Inner.Spans.{first_at, is_out, AreMovedOn, IsMovedOn}
 use Rattle.ics_starts.specs.SeriesFeed.{series_left, series_of, series_sources}
+use Rattle.ics_listing.proofs.ListingLemmas.{get-in}
+use Rattle.ics_series.proofs.GapLemmas.{lists-gap, looked-all, looked-none, looked-one, moved-others, place-gap, place-low, place-within}
+use Rattle.ics_series.proofs.GapLemmas.{sources-gap, IsLookedTo}
 use Rattle.ics_series.proofs.MarkLemmas.{mark-of, marks-put, own-mark}
 use Rattle.ics_series.proofs.OverrideLemmas.{any_version}
 use Rattle.ics_series.proofs.RecurringLemmas.{not-single}
@@ -30,19 +34,19 @@ use Rattle.ics_series.proofs.SourceLemmas.{sources-skip}
 use Rattle.ics_series.proofs.SpanLemmas.{come-first, out-version, series-moved}
 use Rattle.ics_series.proofs.VersionLemmas.{stands}
 use Rattle.ics_series.proofs.masters.push_series.Goals as goal
-use Rattle.ics_series.proofs.masters.push_series.Goals.{In_ok-series, in-Some+in_ok-move_on+in_ok-new+in_ok-push, in_default}
+use Rattle.ics_series.proofs.masters.push_series.Goals.{At-loop-place, In_ok-series, in-Some+in_ok-move_on+in_ok-new+in_ok-push, in_default}
 
 -- the spans after a version's own was moved on, or could not be
 moved-on : (c : In_ok-series) (series : Series) {spans : List Span} → c.in_ok-series.field-0 ≡ Some series
     → IsMovedOn (clocks_in series.zones) series.event.now series.window series.since c.args.floor
-    (series_of series (series_left series)) c.loop-place.spans.items c.loop-place.place spans
+    (series_of series (series_left series)) c.loop-place.spans.items (get_or c.args.near.now c.loop-place.place-index 0) spans
     → AreMovedOn (map said_by c.args.files.now) (display_clock c.args.display.now) c.args.window c.args.floor (map seen c.args.chosen.now)
     c.args.spans.now.items spans
 moved-on c series is moved =
     let vs = c.args.chosen.now in
-    let k = c.loop-place.place in
-    let v = get_or c.args.chosen.now c.loop-place.place any_version in
-    let there = slice_get-get_or vs k any_version c.loop-place-test.true in
+    let k = get_or c.args.near.now c.loop-place.place-index 0 in
+    let v = get_or c.args.chosen.now k any_version in
+    let there = slice_get-get_or vs k any_version (place-within c.requires.near c.loop-place.place-index c.loop-place-test.true) in
     let files = map said_by c.args.files.now in
     let display = display_clock c.args.display.now in
     let m = MatchOption-at_some _ _ series is (c.in_ok-series.ensures.sources v there) in
@@ -51,6 +55,17 @@ moved-on c series is moved =
     let more = series-moved files display c.args.window c.args.floor vs k there series m.1 m.2 behind listing moved in
     let before = c.loop-place.invariant.spans in
     record { size = more.size ∙ before.size; still = λ n later are. more.still n later (before.still n later are) }
+
+-- those at other places are as they were
+others-on : (c : In_ok-series) (series : Series) {spans : List Span}
+    → IsMovedOn (clocks_in series.zones) series.event.now series.window series.since c.args.floor
+    (series_of series (series_left series)) c.loop-place.spans.items (get_or c.args.near.now c.loop-place.place-index 0) spans
+    → AreSameBut c.args.near.now c.args.spans.now.items spans
+others-on c series moved = λ j away.
+    let near = c.args.near.now in
+    let k = get_or near c.loop-place.place-index 0 in
+    moved-others near k (get-in k near c.loop-place.place-index (slice_get-get_or near c.loop-place.place-index 0 c.loop-place-test.true)) moved j away
+    ∙ c.loop-place.invariant.others j away
 
 pub returns-in_err-move_on-clause-spans : goal.returns-in_err-move_on-clause-spans
 returns-in_err-move_on-clause-spans c =
@@ -64,24 +79,76 @@ pub returns-in_err-push-clause-spans : goal.returns-in_err-push-clause-spans
 returns-in_err-push-clause-spans c =
     moved-on (goal.at.returns-in_err-push-clause-spans c).In_ok-series c.in-Some.series c.in-Some.is c.move_on.ensures.spans
 
+pub returns-in_err-move_on-clause-others : goal.returns-in_err-move_on-clause-others
+returns-in_err-move_on-clause-others c =
+    others-on (goal.at.returns-in_err-move_on-clause-others c).In_ok-series c.in-Some.series c.move_on.ensures.spans
+
+pub returns-in_err-new-clause-others : goal.returns-in_err-new-clause-others
+returns-in_err-new-clause-others c =
+    others-on (goal.at.returns-in_err-new-clause-others c).In_ok-series c.in-Some.series c.move_on.ensures.spans
+
+pub returns-in_err-push-clause-others : goal.returns-in_err-push-clause-others
+returns-in_err-push-clause-others c =
+    others-on (goal.at.returns-in_err-push-clause-others c).In_ok-series c.in-Some.series c.move_on.ensures.spans
+
+-- the lists and the sources up to the place that is looked at, where what lies before it gives nothing
+to-here : (c : At-loop-place) → c.loop-place.place-index < length c.args.near.now
+    → HasLists (map said_by c.args.files.now) (display_clock c.args.display.now) c.args.window (option_map (λ key. key_rank key.now) c.args.after)
+    (map seen (take (get_or c.args.near.now c.loop-place.place-index 0) c.args.chosen.now))
+    (map part_coming c.args.parts.now.items) (map part_coming c.loop-place.parts.items)
+    × HasSources (map said_by c.args.files.now) (display_clock c.args.display.now) c.args.window (option_map (λ key. key_rank key.now) c.args.after)
+    (map seen (take (get_or c.args.near.now c.loop-place.place-index 0) c.args.chosen.now))
+    (flat_map part_sources c.args.parts.now.items) (flat_map part_sources c.loop-place.parts.items)
+to-here c test =
+    let near = c.args.near.now in
+    let i = c.loop-place.place-index in
+    let k = get_or near i 0 in
+    let at = slice_get-get_or near i 0 test in
+    let looked = c.loop-place.invariant.looked in
+    let within = place-within c.requires.near i test in
+    let files = map said_by c.args.files.now in
+    let display = display_clock c.args.display.now in
+    let after = option_map (λ key. key_rank key.now) c.args.after in
+    let spans = c.args.spans.now.items in (
+      lists-gap files display c.args.window c.args.chosen.now spans c.requires.spans near c.requires.near looked.0 k (place-low near i at looked.1)
+          (omega (arith, within)) (place-gap near i at looked.1) after c.requires.floor looked.2,
+      sources-gap files display c.args.window c.args.chosen.now spans c.requires.spans near c.requires.near looked.0 k (place-low near i at looked.1)
+          (omega (arith, within)) (place-gap near i at looked.1) after c.requires.chosen looked.3,
+    )
+
+-- and of the place itself
+on-from : (c : At-loop-place) (l : c.loop-place.place-index < length c.args.near.now)
+    → IsLookedTo c.args.near.now (length c.args.chosen.now) (c.loop-place.place-index + 1) (get_or c.args.near.now c.loop-place.place-index 0 + 1)
+on-from c l =
+    looked-one c.args.near.now c.loop-place.place-index (slice_get-get_or c.args.near.now c.loop-place.place-index 0 l) c.loop-place.invariant.looked.1
+    (place-within c.requires.near c.loop-place.place-index l)
+
 -- nothing of a series was read where its mark is taken
 pub mark-begun-requires : goal.mark-begun-requires
 mark-begun-requires c = MatchOption-at_some _ _ c.in-Some.series c.in-Some.is c.in_ok-series.ensures.begun
 
 pub loop-place-init : goal.loop-place-init
 loop-place-init c = record {
-  lists = record { more = []; are = record { each = tt; every = λ l m. absurd m }; behind = sym (append-nil (map part_coming c.args.parts.now.items)) };
-  sources = record { more = []; each = tt; rises = tt; behind = sym (append-nil (flat_map part_sources c.args.parts.now.items)) };
+  looked = (
+    0,
+    looked-none c.args.near.now (length c.args.chosen.now) c.requires.near.rises,
+    record { more = []; are = record { each = tt; every = λ l m. absurd m }; behind = sym (append-nil (map part_coming c.args.parts.now.items)) },
+    record { more = []; each = tt; rises = tt; behind = sym (append-nil (flat_map part_sources c.args.parts.now.items)) },
+  );
   spans = record { size = refl; still = λ n later are. are };
+  others = λ j away. refl;
   marks = c.requires.marks;
+  kept = c.requires.kept;
 }
 
 pub loop-place-preserved : goal.loop-place-preserved
 loop-place-preserved c =
     let vs = c.args.chosen.now in
-    let k = c.loop-place.place in
-    let v = get_or c.args.chosen.now c.loop-place.place any_version in
-    let there = slice_get-get_or vs k any_version c.loop-place-test.true in
+    let k = get_or c.args.near.now c.loop-place.place-index 0 in
+    let v = get_or c.args.chosen.now k any_version in
+    let there = slice_get-get_or vs k any_version (place-within c.requires.near c.loop-place.place-index c.loop-place-test.true) in
+    let here = to-here (goal.at.loop-place-preserved c).At-loop-place c.loop-place-test.true in
+    let on = on-from (goal.at.loop-place-preserved c).At-loop-place c.loop-place-test.true in
     let files = map said_by c.args.files.now in
     let AreMoved = AreMovedOn files (display_clock c.args.display.now) c.args.window c.args.floor (map seen vs) c.args.spans.now.items in
     elim c.match-branch-2.branch [
@@ -89,42 +156,53 @@ loop-place-preserved c =
           let value : w.in_ok-new.field-0.value ≡ w.move_on.new.series = w.in_ok-new.ensures.ok in
           let m = MatchOption-at_some _ _ w.in-Some.series w.in-Some.is (c.in_ok-series.ensures.sources v there) in
           record {
-            sources =
-                sources-more c.requires.chosen k there c.loop-place.invariant.sources m.1
-                (ap (λ (p : Vec Part Global). flat_map part_sources p.items) w.parts-is ∙ (ap (flat_map part_sources) (w.in_ok-push.ensures.items)
-                ∙ (flat_map-append part_sources c.loop-place.parts.items (part.Series w.in_ok-new.field-0 ∷ [])
-                ∙ ap (λ xs. flat_map part_sources c.loop-place.parts.items ++ xs) (append-nil (series_sources w.in_ok-new.field-0.value)
-                ∙ (ap series_sources value ∙ (same-sources w.in-Some.series w.move_on.new.series w.move_on.ensures.same ∙ m.2))))));
-            lists =
-                versions-more vs k there c.loop-place.invariant.lists
-                (MatchOption-at_some _ _ w.in-Some.series w.in-Some.is (c.in_ok-series.ensures.series v there))
-                (ap (λ (p : Vec Part Global). map part_coming p.items) w.parts-is ∙ (ap (map part_coming) w.in_ok-push.ensures.items
-                ∙ (map-append part_coming c.loop-place.parts.items (part.Series w.in_ok-new.field-0 ∷ [])
-                ∙ ap (λ xs. map part_coming c.loop-place.parts.items ++ xs ∷ [])
-                (ap (λ (s : Series). series_of s (series_left s)) value ∙ w.move_on.ensures.coming))));
+            looked = (
+              k + 1,
+              on,
+              versions-more vs k there here.0
+                  (MatchOption-at_some _ _ w.in-Some.series w.in-Some.is (c.in_ok-series.ensures.series v there))
+                  (ap (λ (p : Vec Part Global). map part_coming p.items) w.parts-is ∙ (ap (map part_coming) w.in_ok-push.ensures.items
+                  ∙ (map-append part_coming c.loop-place.parts.items (part.Series w.in_ok-new.field-0 ∷ [])
+                  ∙ ap (λ xs. map part_coming c.loop-place.parts.items ++ xs ∷ [])
+                  (ap (λ (s : Series). series_of s (series_left s)) value ∙ w.move_on.ensures.coming)))),
+              sources-more c.requires.chosen k there here.1 m.1
+                  (ap (λ (p : Vec Part Global). flat_map part_sources p.items) w.parts-is ∙ (ap (flat_map part_sources) (w.in_ok-push.ensures.items)
+                  ∙ (flat_map-append part_sources c.loop-place.parts.items (part.Series w.in_ok-new.field-0 ∷ [])
+                  ∙ ap (λ xs. flat_map part_sources c.loop-place.parts.items ++ xs) (append-nil (series_sources w.in_ok-new.field-0.value)
+                  ∙ (ap series_sources value ∙ (same-sources w.in-Some.series w.move_on.new.series w.move_on.ensures.same ∙ m.2)))))),
+            );
             spans = subst AreMoved (sym (ap (λ (p : Vec Span Global). p.items) w.spans-is))
                 (moved-on (goal.at.loop-place-preserved c).In_ok-series w.in-Some.series w.in-Some.is w.move_on.ensures.spans);
+            others = subst (AreSameBut c.args.near.now c.args.spans.now.items) (sym (ap (λ (p : Vec Span Global). p.items) w.spans-is))
+                (others-on (goal.at.loop-place-preserved c).In_ok-series w.in-Some.series w.move_on.ensures.spans);
             marks = subst (AreMarks files (map seen vs)) (sym (ap (λ (p : Vec (Option Mark) Global). p.items) w.marks-is))
                 (marks-put files (map seen vs) k w.mark-begun.result c.loop-place.marks.items _ c.loop-place.invariant.marks w.put_mark.ensures
                 (own-mark files vs k there w.in-Some.series w.mark-begun.result m.1.stands m.2 w.mark-begun.ensures));
+            kept = c.in_ok-series.ensures.kept;
           }
       | in_default w ↦
           record {
-            sources = sources-skip c.requires.chosen k there c.loop-place.invariant.sources
-                (ap (λ (p : Vec Part Global). flat_map part_sources p.items) w.parts-is);
-            lists =
-                versions-skip vs k there c.loop-place.invariant.lists (MatchOption-at_none _ _ w.in_default.is (c.in_ok-series.ensures.series v there))
-                (ap (λ (p : Vec Part Global). map part_coming p.items) w.parts-is);
+            looked = (
+              k + 1,
+              on,
+              versions-skip vs k there here.0 (MatchOption-at_none _ _ w.in_default.is (c.in_ok-series.ensures.series v there))
+                  (ap (λ (p : Vec Part Global). map part_coming p.items) w.parts-is),
+              sources-skip c.requires.chosen k there here.1 (ap (λ (p : Vec Part Global). flat_map part_sources p.items) w.parts-is),
+            );
             spans = subst AreMoved (sym (ap (λ (p : Vec Span Global). p.items) w.spans-is)) c.loop-place.invariant.spans;
+            others = subst (AreSameBut c.args.near.now c.args.spans.now.items) (sym (ap (λ (p : Vec Span Global). p.items) w.spans-is))
+                c.loop-place.invariant.others;
             marks = subst (AreMarks files (map seen vs)) (sym (ap (λ (p : Vec (Option Mark) Global). p.items) w.marks-is)) c.loop-place.invariant.marks;
+            kept = c.in_ok-series.ensures.kept;
           }
     ]
 
 pub loop-place-preserved-then-is_out : goal.loop-place-preserved-then-is_out
 loop-place-preserved-then-is_out c =
     let vs = c.args.chosen.now in
-    let k = c.loop-place.place in
-    let there = slice_get-get_or vs k any_version c.loop-place-test.true in
+    let k = get_or c.args.near.now c.loop-place.place-index 0 in
+    let there = slice_get-get_or vs k any_version (place-within c.requires.near c.loop-place.place-index c.loop-place-test.true) in
+    let here = to-here (goal.at.loop-place-preserved-then-is_out c).At-loop-place c.loop-place-test.true in
     let at = slice_get-map seen vs k ∙ ap (option_map seen) there in
     let files = map said_by c.args.files.now in
     let display = display_clock c.args.display.now in
@@ -133,43 +211,72 @@ loop-place-preserved-then-is_out c =
     (ap (λ xs. is_out xs k c.args.window) (sym c.deref.ensures.value) ∙ (sym c.is_out.ensures ∙ c.if-is_out.true))
     (option_map (λ key. key_rank key.now) c.args.after) c.requires.floor in
     record {
-      lists = versions-none vs k there c.loop-place.invariant.lists none refl;
-      sources = sources-skip c.requires.chosen k there c.loop-place.invariant.sources refl;
+      looked = (
+        k + 1,
+        on-from (goal.at.loop-place-preserved-then-is_out c).At-loop-place c.loop-place-test.true,
+        versions-none vs k there here.0 none refl,
+        sources-skip c.requires.chosen k there here.1 refl,
+      );
       spans = c.loop-place.invariant.spans;
+      others = c.loop-place.invariant.others;
       marks = c.loop-place.invariant.marks;
+      kept = c.loop-place.invariant.kept;
     }
 
 pub event-requires : goal.event-requires
 event-requires c =
-    stands c.loop-place.place c.requires.chosen
-    (slice_get-get_or c.args.chosen.now c.loop-place.place c.index-chosen-place.result c.loop-place-test.true)
+    let k = get_or c.args.near.now c.loop-place.place-index 0 in
+    stands k c.requires.chosen
+    (slice_get-get_or c.args.chosen.now k c.index-chosen-place.result (place-within c.requires.near c.loop-place.place-index c.loop-place-test.true))
 
 pub loop-place-preserved-then-is_single : goal.loop-place-preserved-then-is_single
 loop-place-preserved-then-is_single c =
     let vs = c.args.chosen.now in
-    let k = c.loop-place.place in
+    let k = get_or c.args.near.now c.loop-place.place-index 0 in
     let v = get_or vs k c.index-chosen-place.result in
-    let there = slice_get-get_or vs k c.index-chosen-place.result c.loop-place-test.true in
+    let there = slice_get-get_or vs k c.index-chosen-place.result (place-within c.requires.near c.loop-place.place-index c.loop-place-test.true) in
+    let here = to-here (goal.at.loop-place-preserved-then-is_single c).At-loop-place c.loop-place-test.true in
     record {
-      lists = versions-skip vs k there c.loop-place.invariant.lists
-          (not-single {u = v} {v = v} refl c.event.ensures.event (sym c.is_single.ensures ∙ c.if-is_single.true)) refl;
-      sources = sources-skip c.requires.chosen k there c.loop-place.invariant.sources refl;
+      looked = (
+        k + 1,
+        on-from (goal.at.loop-place-preserved-then-is_single c).At-loop-place c.loop-place-test.true,
+        versions-skip vs k there here.0
+            (not-single {u = v} {v = v} refl c.event.ensures.event (sym c.is_single.ensures ∙ c.if-is_single.true)) refl,
+        sources-skip c.requires.chosen k there here.1 refl,
+      );
       spans = c.loop-place.invariant.spans;
+      others = c.loop-place.invariant.others;
       marks = c.loop-place.invariant.marks;
+      kept = c.loop-place.invariant.kept;
     }
 
 pub series_at-requires-clause-mark : goal.series_at-requires-clause-mark
 series_at-requires-clause-mark c =
-    mark-of (map said_by c.args.files.now) (map seen c.args.chosen.now) c.args.chosen.now refl c.loop-place.place c.mark_at-mark.result c.loop-place.marks.items
+    mark-of (map said_by c.args.files.now) (map seen c.args.chosen.now) c.args.chosen.now refl (get_or c.args.near.now c.loop-place.place-index 0)
+    c.mark_at-mark.result c.loop-place.marks.items
     c.loop-place.invariant.marks (rw c.deref-in-loop-place.ensures.value at c.mark_at-mark.ensures)
 
 pub returns : goal.returns
 returns c =
+    let vs = c.args.chosen.now in
+    let near = c.args.near.now in
+    let i = c.loop-place.place-index in
+    let looked = c.loop-place.invariant.looked in
+    let files = map said_by c.args.files.now in
+    let display = display_clock c.args.display.now in
+    let after = option_map (λ key. key_rank key.now) c.args.after in
+    let spans = c.args.spans.now.items in
     record {
-      lists = versions-all c.args.chosen.now c.loop-place.place c.loop-place-test.false c.loop-place.invariant.lists;
-      sources = sources-all c.requires.chosen c.loop-place.place c.loop-place-test.false c.loop-place.invariant.sources;
+      lists = versions-all vs (length vs) (omega arith)
+          (lists-gap files display c.args.window vs spans c.requires.spans near c.requires.near looked.0 (length vs) looked.1.within (omega arith)
+          (λ j a b m. looked-all near i looked.0 c.loop-place-test.false looked.1 j a m) after c.requires.floor looked.2);
+      sources = sources-all c.requires.chosen (length vs) (omega arith)
+          (sources-gap files display c.args.window vs spans c.requires.spans near c.requires.near looked.0 (length vs) looked.1.within (omega arith)
+          (λ j a b m. looked-all near i looked.0 c.loop-place-test.false looked.1 j a m) after c.requires.chosen looked.3);
       spans = c.loop-place.invariant.spans;
+      others = c.loop-place.invariant.others;
       marks = c.loop-place.invariant.marks;
+      kept = c.loop-place.invariant.kept;
     }
 
 pub series_at-requires-clause-chosen : goal.series_at-requires-clause-chosen
@@ -181,7 +288,7 @@ series_at-requires-clause-within c = grind (arith, common_steps)
 pub series_at-requires-clause-begin : goal.series_at-requires-clause-begin
 series_at-requires-clause-begin c version there =
     let vs = c.args.chosen.now in
-    let k = c.loop-place.place in
+    let k = get_or c.args.near.now c.loop-place.place-index 0 in
     let files = map said_by c.args.files.now in
     let display = display_clock c.args.display.now in
     let are = c.loop-place.invariant.spans.still c.args.window (record { from = omega (arith, ints); same = refl }) c.requires.spans in

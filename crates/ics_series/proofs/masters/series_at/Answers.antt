@@ -1,4 +1,4 @@
-use Rattle.std.proofs.Common.{◌≡◌, ◌≤ℤ◌, Some, ◌∙◌, arith, rules, map, slice_get, w64, to_z, of_z, refl, sym, ap, subst, option_map}
+use Rattle.std.proofs.Common.{◌≡◌, ◌≤ℤ◌, None, Some, ◌∙◌, arith, rules, map, slice_get, w64, to_z, of_z, refl, sym, ap, subst, option_map}
 use Rattle.std.specs.Int.{int_max}
 use Rattle.std.proofs.lemmas.Int.{int_max_is, ints, to_z-of_z}
 use Rattle.std.proofs.lemmas.Option.{slice_get_read}
@@ -8,6 +8,7 @@ use Rattle.ics_starts.specs.Clocks.{display_clock}
 use Rattle.ics_listing.specs.Entry.{key_rank}
 use Rattle.ics_series.specs.Inner.Masters.{named_by, IsBehind, Recurs}
 use Rattle.ics_series.specs.Chosen.{SubjectSeen}
+use Rattle.ics_series.specs.PlacedEvents.{clocks_at}
 use Rattle.ics_listing.specs.FeedSources.{Recurring}
 use Rattle.ics_series.specs.Versions.{seen}
 use Rattle.ics_starts.specs.FileZones.{clocks_in}
@@ -18,7 +19,7 @@ use Rattle.ics_series.proofs.ReplacedLemmas.{are-replaced, named-among}
 use Rattle.ics_starts.specs.Exclusions.{is_among}
 use Rattle.ics_listing.proofs.Cases.{some-same}
 use Rattle.ics_series.proofs.RecurringLemmas.{behind, come-since, own-subject, IsRead, not-single, series-listing}
-use Rattle.ics_series.proofs.SourceLemmas.{from-later}
+use Rattle.ics_series.proofs.SourceLemmas.{from-later, master-of}
 use Rattle.ics_series.proofs.MarkLemmas.{first_source}
 use Rattle.ics_starts.proofs.ZoneLemmas.{own-event}
 use Rattle.ics_series.proofs.masters.series_at.Goals as goal
@@ -33,6 +34,7 @@ returns-then-is_single c =
     let here : slice_get c.args.chosen.now c.args.place ≡ Some c.index-chosen-place.result =
     slice_get_read c.args.chosen.now _ c.args.place c.index-chosen-place.result refl c.requires.within c.index-chosen-place.is in
     record {
+      kept = c.requires.kept;
       since = λ version there. tt;
       begun = tt;
       sources = λ version there. tt;
@@ -51,6 +53,33 @@ new-requires-clause-mark c =
     c.requires.mark c.index-chosen-place.result c.event-event.result.now
     (slice_get_read c.args.chosen.now _ c.args.place c.index-chosen-place.result refl c.requires.within c.index-chosen-place.is)
     c.event-event.ensures.event
+
+pub new-requires-clause-kept : goal.new-requires-clause-kept
+new-requires-clause-kept c =
+    let files = map said_by c.args.files.now in
+    let display = display_clock c.args.display.now in
+    let version = c.index-chosen-place.result in
+    let here : slice_get c.args.chosen.now c.args.place ≡ Some c.index-chosen-place.result =
+    slice_get_read c.args.chosen.now _ c.args.place c.index-chosen-place.result refl c.requires.within c.index-chosen-place.is in
+    let of = master-of {w = c.args.window} {after = None} c.requires.chosen
+    (record {
+      clocks = clocks_at files display version.spot.file;
+      event = c.event-event.result.now;
+      window = c.args.window;
+      since = c.args.window.from;
+    })
+    (record {
+      label = seen version;
+      stands = map-in seen version c.args.chosen.now (get-in version c.args.chosen.now c.args.place here);
+      is = record {
+        stands = c.event-event.ensures.event;
+        recurs = sym c.is_single.ensures ∙ c.if-is_single.false;
+        clocks = refl;
+        window = refl;
+        since = tt;
+      };
+    }) in
+    c.take_kept-known.ensures.of files display c.requires.kept of.by of.is (sym of.event)
 
 pub replaced_at-requires-clause-rises : goal.replaced_at-requires-clause-rises
 replaced_at-requires-clause-rises c = chosen-rises c.requires.chosen
@@ -124,4 +153,9 @@ returns c =
         c.in_ok-series.ensures.sources,
       );
       begun = c.in_ok-series.ensures.begun;
+      kept = c.take_kept-known.ensures.rest (map said_by c.args.files.now) (display_clock c.args.display.now) c.requires.kept;
     }
+
+pub returns-in_err-series-clause-kept : goal.returns-in_err-series-clause-kept
+returns-in_err-series-clause-kept c =
+    c.take_kept-known.ensures.rest (map said_by c.args.files.now) (display_clock c.args.display.now) c.requires.kept

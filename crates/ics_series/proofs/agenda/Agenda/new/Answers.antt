@@ -1,10 +1,12 @@
-use Rattle.std.proofs.Common.{map, option_map, sym, subst, None}
+use Rattle.std.proofs.Common.{◌∙◌, ap, arith, filter, length, map, option_map, sym, subst, None}
 use Rattle.std.proofs.lemmas.Result.{IfOk-weaker}
 use Rattle.ics_file.specs.File.{said_by}
 use Rattle.ics_starts.specs.Clocks.{display_clock}
 use Rattle.ics_listing.specs.Entry.{key_rank}
+use Rattle.ics_series.specs.Inner.Kept.{AreKept}
 use Rattle.ics_series.specs.Inner.Marks.{AreMarks}
-use Rattle.ics_series.specs.Versions.{seen}
+use Rattle.ics_series.specs.Inner.NearPlaces.{AreBelow, AreNear}
+use Rattle.ics_series.specs.Versions.{is_override, seen}
 use Rattle.ics_series.proofs.MarkLemmas.{no-marks}
 use Rattle.ics_series.proofs.SinglesLemmas.{behind-key}
 use Rattle.ics_series.proofs.SpanLemmas.{no-spans}
@@ -12,16 +14,35 @@ use Rattle.ics_series.proofs.WholeLemmas.{keys, whole}
 use Rattle.ics_series.proofs.agenda.Agenda.new.Goals as goal
 
 pub of-requires-clause-chosen : goal.of-requires-clause-chosen
-of-requires-clause-chosen c = rw c.deref.ensures.value c.in_ok-chosen.ensures.chosen
+of-requires-clause-chosen c = rw c.deref-2.ensures.value c.in_ok-chosen.ensures.chosen
 
 pub of-requires-clause-spans : goal.of-requires-clause-spans
 of-requires-clause-spans c =
-    no-spans (map said_by c.args.files.now) (display_clock c.args.display.now) c.args.window None (map seen c.deref.result.now) c.new-spans.ensures.items
+    no-spans (map said_by c.args.files.now) (display_clock c.args.display.now) c.args.window None (map seen c.deref-2.result.now) c.new-spans.ensures.items
+
+pub of-requires-clause-overrides : goal.of-requires-clause-overrides
+of-requires-clause-overrides c =
+    ap (map seen) c.deref-3.ensures.value
+    ∙ (c.in_ok-overrides.ensures ∙ ap (λ vs. filter is_override (map seen vs)) (c.deref.ensures.value ∙ sym c.deref-2.ensures.value))
+
+pub of-requires-clause-near : goal.of-requires-clause-near
+of-requires-clause-near c =
+    let count = c.len.ensures ∙ sym c.deref-2.ensures.len in
+    subst (AreNear c.new-spans.result.items c.args.window (length c.deref-2.result.now)) (sym c.deref-4.ensures.value)
+    (record {
+      rises = c.in_ok-near.ensures.rises;
+      below = subst (λ n. AreBelow n c.in_ok-near.near.items) count c.in_ok-near.ensures.below;
+      out = λ k within away. absurd (away (c.in_ok-near.ensures.all k (omega (arith, within, count))));
+    })
 
 pub of-requires-clause-marks : goal.of-requires-clause-marks
 of-requires-clause-marks c =
-    subst (AreMarks (map said_by c.args.files.now) (map seen c.deref.result.now)) (sym c.new-marks.ensures.items)
-    (no-marks (map said_by c.args.files.now) (map seen c.deref.result.now))
+    subst (AreMarks (map said_by c.args.files.now) (map seen c.deref-2.result.now)) (sym c.new-marks.ensures.items)
+    (no-marks (map said_by c.args.files.now) (map seen c.deref-2.result.now))
+
+pub of-requires-clause-kept : goal.of-requires-clause-kept
+of-requires-clause-kept c =
+    subst (AreKept (map said_by c.args.files.now) (display_clock c.args.display.now)) (sym c.new-kept.ensures.items) tt
 
 pub returns : goal.returns
 returns c = record {

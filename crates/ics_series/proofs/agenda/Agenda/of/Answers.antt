@@ -7,14 +7,13 @@ use Rattle.ics_series.specs.AgendaParts.{part_coming}
 use Rattle.ics_listing.specs.Listing.{IsListing}
 use Rattle.ics_series.specs.Meets.{IsToCome}
 use Rattle.ics_series.specs.Sources.{AreApart}
-use Rattle.ics_series.specs.Versions.{seen}
 use Rattle.ics_series.proofs.SinglesLemmas.{pushed-listing}
 use Rattle.ics_series.proofs.UidLemmas.{parts-sorted}
 use Rattle.ics_series.proofs.SourceLemmas.{sources-behind}
 use Rattle.ics_series.proofs.agenda.Agenda.of.Goals as goal
 
-pub new-requires-clause-overrides : goal.new-requires-clause-overrides
-new-requires-clause-overrides c = ap (map seen) c.deref-2.ensures.value ∙ c.in_ok-overrides.ensures
+pub new-requires-clause-near : goal.new-requires-clause-near
+new-requires-clause-near c = rw c.deref.ensures.value c.requires.near
 
 pub new-requires-clause-spans : goal.new-requires-clause-spans
 new-requires-clause-spans c = (c.args.floor, rw c.deref.ensures.value c.requires.spans)
@@ -52,5 +51,7 @@ returns c =
           (sym c.in_ok-merge.ensures.coming)
           (pushed-listing files display c.args.window after singles c.requires.chosen c.in_ok-singles.ensures pushed);
       spans = c.push_series.ensures.spans;
+      others = c.push_series.ensures.others;
       marks = c.push_series.ensures.marks;
+      kept = c.push_series.ensures.kept;
     }

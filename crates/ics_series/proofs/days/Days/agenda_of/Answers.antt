@@ -1,11 +1,14 @@
 use Rattle.std.proofs.lemmas.Int.{int_min_is, ints}
-use Rattle.std.proofs.Common.{rules, ◌≡◌, map, None, inl, arith, to_z, of_z, w32}
+use Rattle.std.proofs.Common.{rules, ◌≡◌, ◌∙◌, ap, length, map, None, inl, arith, subst, sym, to_z, of_z, w32}
+use Rattle.std.proofs.lemmas.List.{length-map}
 use Rattle.ics_file.specs.File.{said_by}
 use Rattle.ics_starts.specs.Clocks.{display_clock}
 use Rattle.ics_series.specs.Versions.{seen}
 use Rattle.ics_listing.proofs.Cases.{if-both}
+use Rattle.ics_series.specs.Inner.NearPlaces.{AreNear}
 use Rattle.ics_series.specs.Inner.Spans.{floor_of}
-use Rattle.ics_series.proofs.NearDayLemmas.{bounds-offsets}
+use Rattle.ics_days.proofs.NearDayLemmas.{bounds-offsets}
+use Rattle.ics_series.proofs.ReachLemmas.{near-from, near-of, places-moved}
 use Rattle.ics_series.proofs.SpanLemmas.{are-spans, near-later, spans-floor}
 use Rattle.ics_series.proofs.days.Days.agenda_of.Goals as goal
 
@@ -32,6 +35,42 @@ returns-clause-spans c = λ x n later h.
     (c.of.ensures.spans.still n (near-later near h (omega (arith, ints, later)))
     (are-spans (map said_by c.args.files.now) (display_clock c.args.display.now) c.args.window.now n (omega (arith, ints, h.to, int_min_is)) None
     (map seen c.args.versions.now) c.requires.spans))
+
+pub of-requires-clause-near : goal.of-requires-clause-near
+of-requires-clause-near c =
+    let spans = c.args.spans.now.items in
+    let near = c.near_day-near.result in
+    let size = ap length c.requires.spans ∙ (length-map _ _ ∙ length-map c.args.versions.now seen) in
+    let reached = rw c.deref.ensures.value at c.in_ok-reach.ensures.reached in
+    subst (AreNear spans near (length c.args.versions.now)) (sym c.deref-2.ensures.value)
+    (near-of c.reach.new.self spans near (c.reach.ensures.count ∙ c.requires.count) size (reached (c.requires.places near)))
+
+pub returns-clause-count : goal.returns-clause-count
+returns-clause-count c = c.reach.ensures.count
+
+pub returns-clause-places : goal.returns-clause-places
+returns-clause-places c =
+    let fits : to_z w32 (of_z w32 c.args.day) ≡ c.args.day = search rules in
+    let near = rw fits at c.near_day-near.ensures in
+    let has = rw c.deref.ensures.value at c.reach.ensures.has in
+    let others = rw c.deref-2.ensures.value at c.of.ensures.others in
+    places-moved c.reach.new.self c.args.spans.now.items c.of.new.spans.items others
+    (λ clock x n later h. has n (near-from near h (omega (arith, ints, later))) (c.requires.places n))
+
+pub returns-in_err-reach-clause-places : goal.returns-in_err-reach-clause-places
+returns-in_err-reach-clause-places c =
+    let fits : to_z w32 (of_z w32 c.args.day) ≡ c.args.day = search rules in
+    let near = rw fits at c.near_day-near.ensures in
+    let has = rw c.deref.ensures.value at c.reach.ensures.has in
+    λ clock x n later h. has n (near-from near h (omega (arith, ints, later))) (c.requires.places n)
+
+pub returns-in_err-reach-clause-spans : goal.returns-in_err-reach-clause-spans
+returns-in_err-reach-clause-spans c = λ x n later h.
+    are-spans (map said_by c.args.files.now) (display_clock c.args.display.now) c.args.window.now n (omega (arith, ints, h.to, int_min_is))
+    (floor_of c.args.window.now) (map seen c.args.versions.now) c.requires.spans
+
+pub returns-then-last_near-day-clause-places : goal.returns-then-last_near-day-clause-places
+returns-then-last_near-day-clause-places c = λ clock x n later h. c.requires.places n
 
 pub returns-clause-size : goal.returns-clause-size
 returns-clause-size c = c.of.ensures.spans.size

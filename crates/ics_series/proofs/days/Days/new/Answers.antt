@@ -1,24 +1,45 @@
-use Rattle.std.proofs.Common.{rules, ◌≡◌, ◌∙◌, length, map, refl, ap, subst, sym, arith, to_z, of_z, w32, ◌≤ℤ◌, option_map}
+use Rattle.std.proofs.Common.{rules, ◌≡◌, ◌∙◌, filter, length, map, refl, ap, subst, sym, arith, to_z, of_z, w32, ◌≤ℤ◌, option_map}
 use Rattle.std.proofs.lemmas.Int.{ints}
 use Rattle.std.proofs.lemmas.List.{length-map}
 use Rattle.ics_file.specs.File.{said_by}
 use Rattle.ics_series.specs.Ahead.{agenda_coming}
 use Rattle.ics_starts.specs.Clocks.{display_clock}
-use Rattle.ics_series.specs.OnDays.{date_at}
+use Rattle.ics_days.specs.ShownDays.{date_at}
 use Rattle.ics_series.specs.DaySteps.{agenda_sources, scope_in}
 use Rattle.ics_listing.specs.Entry.{key_rank}
 use Rattle.ics_listing.specs.DayKeys.{day_key_rank}
-use Rattle.ics_series.specs.NearDays.{first_near}
-use Rattle.ics_series.specs.Versions.{seen}
+use Rattle.ics_days.specs.NearDays.{first_near}
+use Rattle.ics_series.specs.Versions.{is_override, seen}
 use Rattle.ics_series.proofs.AheadLemmas.{begun-ahead, begun-by, day-keys, first-masters, from-start, looked-before}
 use Rattle.ics_series.proofs.MarkLemmas.{marks-none}
 use Rattle.ics_series.proofs.SpanLemmas.{those-chosen}
 use Rattle.ics_series.proofs.WholeLemmas.{keys, masters-listed, whole}
+use Rattle.ics_series.specs.Inner.Kept.{AreKept}
 use Rattle.ics_series.proofs.days.Days.new.Goals as goal
 
 pub agenda_of-requires-clause-marks : goal.agenda_of-requires-clause-marks
 agenda_of-requires-clause-marks c =
-    marks-none (map said_by c.args.files.now) (map seen c.deref-2.result.now) c.add_places.new.marks.items c.in_ok-add_places.ensures
+    marks-none (map said_by c.args.files.now) (map seen c.deref-4.result.now) c.add_places.new.marks.items c.in_ok-add_places.ensures
+
+pub agenda_of-requires-clause-overrides : goal.agenda_of-requires-clause-overrides
+agenda_of-requires-clause-overrides c =
+    ap (map seen) c.deref-5.ensures.value
+    ∙ (c.in_ok-overrides.ensures ∙ ap (λ vs. filter is_override (map seen vs)) (c.deref.ensures.value ∙ sym c.deref-4.ensures.value))
+
+pub agenda_of-requires-clause-count : goal.agenda_of-requires-clause-count
+agenda_of-requires-clause-count c =
+    c.in_ok-near.ensures.count ∙ (ap length c.deref-3.ensures.value
+    ∙ (ap length c.in_ok-spans.ensures
+    ∙ (length-map _ _ ∙ (length-map c.deref-2.result.now seen ∙ ap length (c.deref-2.ensures.value ∙ sym c.deref-4.ensures.value)))))
+
+pub agenda_of-requires-clause-places : goal.agenda_of-requires-clause-places
+agenda_of-requires-clause-places c = rw c.deref-3.ensures.value at c.in_ok-near.ensures.has
+
+pub agenda_of-requires-clause-kept : goal.agenda_of-requires-clause-kept
+agenda_of-requires-clause-kept c =
+    let files = map said_by c.args.files.now in
+    let display = display_clock c.args.display.now in
+    c.add_kept.ensures files display (subst (AreKept files display) (sym c.new-kept.ensures.items) tt)
 
 pub returns : goal.returns
 returns c =
@@ -55,16 +76,21 @@ invariant_of-result c =
     let last : to_z w32 (of_z w32 c.last_shown-last.result) ≡ c.last_shown-last.result = search rules in
     let low = c.begin-day.ensures.near in
     let behind = rw (← fits) at c.begin-day.ensures.behind in
-    let spanned = rw c.deref.ensures.value at c.in_ok-spans.ensures in
+    let spanned = rw c.deref-2.ensures.value at c.in_ok-spans.ensures in
     let first : first_near c.args.window c.bounds_in-bounds.result ≤ℤ to_z w32 (of_z w32 c.begin-day.result.0) = omega (arith, ints, low, fits) in
     let from = rw (← c.day_and_start.ensures) at (from-start after (to_z w32 (of_z w32 c.begin-day.result.0)) key behind) in
     let masters = first-masters scope from c.in_ok-agenda.ensures.agenda in
     record {
       chosen = those-chosen (map said_by c.args.files.now) (display_clock c.args.display.now) c.in_ok-versions.versions.items c.in_ok-versions.ensures.chosen;
+      overriding = rw c.deref.ensures.value at c.in_ok-overrides.ensures;
+      counted = c.agenda_of.ensures.count ∙ (c.in_ok-near.ensures.count ∙ (ap length c.deref-3.ensures.value
+          ∙ (ap length spanned ∙ (length-map _ _ ∙ length-map _ _))));
+      reached = c.agenda_of.ensures.places;
       bounded = c.bounds_in-bounds.ensures;
       sized = c.agenda_of.ensures.size ∙ (ap length spanned ∙ (length-map _ _ ∙ length-map _ _));
-      spanned = rw c.deref-2.ensures.value at c.agenda_of.ensures.spans;
-      marked = rw c.deref-2.ensures.value at c.agenda_of.ensures.marks;
+      spanned = rw c.deref-4.ensures.value at c.agenda_of.ensures.spans;
+      marked = rw c.deref-4.ensures.value at c.agenda_of.ensures.marks;
+      known = c.agenda_of.ensures.kept;
       not_before = first;
       begun = rw c.day_and_start.ensures
           (begun-by (first_near c.args.window c.bounds_in-bounds.result) after (to_z w32 (of_z w32 c.begin-day.result.0)) key behind first);

@@ -2,10 +2,11 @@ use Rattle.std.proofs.Common.{arith, map, filter}
 use Rattle.std.proofs.Math.Bridge.{le_prop}
 use Rattle.std.proofs.Math.Logic.{∥∥₁_elim}
 use Rattle.ics_file.specs.File.{said_by}
-use Rattle.ics_series.specs.Ahead.{agenda_coming, is_today}
+use Rattle.ics_series.specs.Ahead.{agenda_coming}
+use Rattle.ics_days.specs.Today.{is_today}
 use Rattle.ics_starts.specs.Clocks.{display_clock}
 use Rattle.ics_series.specs.DaySteps.{agenda_sources, scope_in}
-use Rattle.ics_series.specs.NearDays.{last_near}
+use Rattle.ics_days.specs.NearDays.{last_near}
 use Rattle.ics_series.proofs.AheadLemmas.{first-day, steps-most}
 use Rattle.ics_series.proofs.days.Days.steps.Goals as goal
 

@@ -1,5 +1,5 @@
 use Rattle.std.proofs.Common.{◌≡◌, ◌∙◌, ◌<ℤ◌, map, option_map, true, subst, arith, rules, to_z, of_z, w32}
-use Rattle.ics_series.specs.OnDays.{is_on}
+use Rattle.ics_days.specs.ShownDays.{is_on}
 use Rattle.ics_listing.specs.Entry.{key_rank}
 use Rattle.std.proofs.Math.Bridge.{le_prop}
 use Rattle.std.proofs.Math.Logic.{∥∥₁_elim}
@@ -8,10 +8,11 @@ use Rattle.ics_file.specs.File.{said_by}
 use Rattle.ics_series.specs.Ahead.{agenda_coming}
 use Rattle.ics_starts.specs.Clocks.{display_clock}
 use Rattle.ics_series.specs.DaySteps.{agenda_sources, scope_in}
-use Rattle.ics_series.specs.NearDays.{first_near}
-use Rattle.ics_series.proofs.NearDayLemmas.{bounds-offsets}
+use Rattle.ics_days.specs.NearDays.{first_near}
+use Rattle.ics_days.proofs.NearDayLemmas.{bounds-offsets}
 use Rattle.ics_series.specs.Sources.{recurring}
 use Rattle.ics_series.proofs.AheadLemmas.{ahead-turned, from-later, looked-before, looked-next, searched-masters}
+use Rattle.ics_series.proofs.ReachLemmas.{near-of, places-moved, places-next, places-same}
 use Rattle.ics_series.proofs.SpanLemmas.{after-next, after-same, chosen-back, none-between}
 use Rattle.ics_series.proofs.days.Days.turn.Goals as goal
 
@@ -30,10 +31,28 @@ next_day-day-requires-clause-offsets c =
     let self = c.args.self.now in
     bounds-offsets (display_clock self.display.now) self.window self.bounds self.bounded
 
+pub next_day-day-requires-clause-places : goal.next_day-day-requires-clause-places
+next_day-day-requires-clause-places c =
+    let fits : to_z w32 (of_z w32 c.args.self.now.today.day) ≡ c.args.self.now.today.day = search rules in
+    rw (fits, c.deref.ensures.value) c.args.self.now.reached
+
+pub of-requires-clause-overrides : goal.of-requires-clause-overrides
+of-requires-clause-overrides c = rw (c.deref-4.ensures.value, c.deref-3.ensures.value) c.args.self.now.overriding
+
+pub of-requires-clause-near : goal.of-requires-clause-near
+of-requires-clause-near c =
+    let self = c.args.self.now in
+    let near = c.near_day-near.result in
+    let reached = rw c.deref-2.ensures.value at c.in_ok-reach.ensures.reached in
+    rw (c.deref-5.ensures.value, c.deref-3.ensures.value)
+    (near-of c.reach.new.self self.spans.items near (c.reach.ensures.count ∙ self.counted) self.sized
+    (reached (self.reached (display_clock self.display.now) (to_z w32 (of_z w32 c.next_day-day.result)) near
+    (omega (arith, ints, c.next_day-day.type_inv, c.next_day-day.ensures.later)) c.near_day-near.ensures)))
+
 pub of-requires-clause-chosen : goal.of-requires-clause-chosen
 of-requires-clause-chosen c =
     let self = c.args.self.now in
-    rw c.deref-2.ensures.value (chosen-back (map said_by self.files.now) (display_clock self.display.now) self.versions.items self.chosen)
+    rw c.deref-3.ensures.value (chosen-back (map said_by self.files.now) (display_clock self.display.now) self.versions.items self.chosen)
 
 pub of-requires-clause-floor : goal.of-requires-clause-floor
 of-requires-clause-floor c = rw (← c.floor_of.ensures) at c.key_near-key.ensures.floor
@@ -41,27 +60,28 @@ of-requires-clause-floor c = rw (← c.floor_of.ensures) at c.key_near-key.ensur
 pub of-requires-clause-spans : goal.of-requires-clause-spans
 of-requires-clause-spans c =
     let self = c.args.self.now in
-    rw (c.deref-2.ensures.value, c.floor_of.ensures)
+    rw (c.deref-3.ensures.value, c.floor_of.ensures)
     (self.spanned (to_z w32 (of_z w32 c.next_day-day.result)) c.near_day-near.result
     (omega (arith, ints, c.next_day-day.type_inv, c.next_day-day.ensures.later)) c.near_day-near.ensures)
 
--- no day was turned to, but spans and marks may have been moved on
+-- no day was turned to, but places may have been reached
 pub invariant_of-self : goal.invariant_of-self
 invariant_of-self c =
     let self = c.args.self.now in
-    let files = map said_by self.files.now in
-    let display = display_clock self.display.now in
-    let moved = rw (c.deref-2.ensures.value, c.floor_of.ensures) at c.of.ensures.spans in
+    let has = rw c.deref-2.ensures.value at c.reach.ensures.has in
     let same : to_z w32 (of_z w32 c.next_day-day.result) ≡ c.next_day-day.result = omega (arith, ints, c.next_day-day.type_inv) in
     let fits : to_z w32 (of_z w32 c.args.self.now.today.day) ≡ c.args.self.now.today.day = search rules in
     let none = rw (fits, ← same, c.deref.ensures.value) at c.next_day-day.ensures.none in
     record {
       chosen = self.chosen;
+      overriding = self.overriding;
+      counted = c.reach.ensures.count ∙ self.counted;
       bounded = self.bounded;
-      sized = moved.size ∙ self.sized;
-      spanned = after-same files display self.bounds self.window self.versions.items self.sized self.spanned c.near_day-near.ensures moved
-          (chosen-back files display self.versions.items self.chosen) none;
-      marked = rw c.deref-2.ensures.value at c.of.ensures.marks;
+      sized = self.sized;
+      spanned = self.spanned;
+      reached = places-same self.places c.reach.new.self self.spans.items c.near_day-near.ensures has none self.reached;
+      marked = self.marked;
+      known = self.known;
       not_before = self.not_before;
       begun = self.begun;
       masters = self.masters;
@@ -72,8 +92,47 @@ invariant_of-self c =
       below = self.below;
     }
 
+-- no day was turned to, but places may have been reached, and spans and marks moved on
+-- the places that are reached are in order
 pub invariant_of-self-2 : goal.invariant_of-self-2
 invariant_of-self-2 c =
+    let places = c.reach.new.self in
+    (places.rising, (places.below, (places.ordered, (places.waiting_below, tt))))
+
+pub invariant_of-self-in-Break-branch-2 : goal.invariant_of-self-in-Break-branch-2
+invariant_of-self-in-Break-branch-2 c =
+    let self = c.args.self.now in
+    let files = map said_by self.files.now in
+    let display = display_clock self.display.now in
+    let moved = rw (c.deref-3.ensures.value, c.floor_of.ensures) at c.of.ensures.spans in
+    let same : to_z w32 (of_z w32 c.next_day-day.result) ≡ c.next_day-day.result = omega (arith, ints, c.next_day-day.type_inv) in
+    let fits : to_z w32 (of_z w32 c.args.self.now.today.day) ≡ c.args.self.now.today.day = search rules in
+    let none = rw (fits, ← same, c.deref.ensures.value) at c.next_day-day.ensures.none in
+    record {
+      chosen = self.chosen;
+      overriding = self.overriding;
+      counted = c.reach.ensures.count ∙ self.counted;
+      reached = places-moved c.reach.new.self self.spans.items c.of.new.spans.items (rw c.deref-5.ensures.value at c.of.ensures.others)
+          (places-same self.places c.reach.new.self self.spans.items c.near_day-near.ensures (rw c.deref-2.ensures.value at c.reach.ensures.has) none
+          self.reached);
+      bounded = self.bounded;
+      sized = moved.size ∙ self.sized;
+      spanned = after-same files display self.bounds self.window self.versions.items self.sized self.spanned c.near_day-near.ensures moved
+          (chosen-back files display self.versions.items self.chosen) none;
+      marked = rw c.deref-3.ensures.value at c.of.ensures.marks;
+      known = c.of.ensures.kept;
+      not_before = self.not_before;
+      begun = self.begun;
+      masters = self.masters;
+      before = self.before;
+      past = self.past;
+      shown = self.shown;
+      within = self.within;
+      below = self.below;
+    }
+
+pub invariant_of-self-3 : goal.invariant_of-self-3
+invariant_of-self-3 c =
     let self = c.args.self.now in
     let next = c.next_day-day in
     let day : to_z w32 (of_z w32 c.next_day-day.result) ≡ c.next_day-day.result = omega (arith, ints, next.type_inv) in
@@ -82,17 +141,23 @@ invariant_of-self-2 c =
     let begun = self.begun in
     let files = map said_by self.files.now in
     let display = display_clock self.display.now in
-    let moved = rw (c.deref-2.ensures.value, c.floor_of.ensures) at c.of.ensures.spans in
+    let moved = rw (c.deref-3.ensures.value, c.floor_of.ensures) at c.of.ensures.spans in
     let masters = searched-masters scope (option_map (λ key. key_rank key.now) c.key_near-key.result) c.near_day-near.ensures
     (λ since f. from-later (first_near self.window self.bounds) self.after self.begun (omega (arith, ints, day, next.ensures.later)) since)
     (recurring (agenda_sources c.in_ok-agenda.agenda)) c.in_ok-agenda.ensures.sources.each in
     record {
       chosen = self.chosen;
+      overriding = self.overriding;
+      counted = c.reach.ensures.count ∙ self.counted;
+      reached = places-moved c.reach.new.self self.spans.items c.of.new.spans.items (rw c.deref-5.ensures.value at c.of.ensures.others)
+          (places-next self.places c.reach.new.self self.spans.items c.near_day-near.ensures (rw c.deref-2.ensures.value at c.reach.ensures.has)
+          (omega (arith, ints, day, next.ensures.later)) self.reached);
       bounded = self.bounded;
       sized = moved.size ∙ self.sized;
       spanned = after-next files display self.bounds self.window self.versions.items self.sized self.spanned c.near_day-near.ensures moved
           (omega (arith, ints, day, next.ensures.later));
-      marked = rw c.deref-2.ensures.value at c.of.ensures.marks;
+      marked = rw c.deref-3.ensures.value at c.of.ensures.marks;
+      known = c.of.ensures.kept;
       not_before = omega (arith, ints, day, next.ensures.later, self.not_before);
       begun = omega (arith, ints, day, next.ensures.later, begun);
       masters = ∣ masters ∣₁;

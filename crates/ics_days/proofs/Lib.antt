@@ -1,0 +1,2 @@
+pub mod NearDayLemmas
+pub mod ShownLemmas

@@ -1,0 +1,4 @@
+pub mod NearDays
+pub mod Offsets
+pub mod ShownDays
+pub mod Today

@@ -1,0 +1,62 @@
+-- What is known of the rules of masters, from day to day.
+use Rattle.std.specs.Global.{Box}
+use Rattle.std.proofs.Common.{◌≡◌, ◌∙◌, ℕ, List, [], ◌∷◌, ◌++◌, Option, Some, None, sym, ap, subst}
+use Rattle.std.specs.List.{flat_map, AllByRecursion}
+use Rattle.std.proofs.Math.Logic.{∥∥₁_elim}
+use Rattle.ics_file.specs.File.{FileSaid}
+use Rattle.ics_event.specs.declared.event.Event.{Event}
+use Rattle.ics_listing.specs.FeedSources.{Source}
+use Rattle.ics_listing.specs.FileClocks.{Clock}
+use Rattle.ics_starts.specs.KeptLocals.{IsKeptOf}
+use Rattle.ics_starts.specs.SeriesLaws.{event-set}
+use Rattle.ics_starts.specs.declared.kept_locals.KeptLocals.{KeptLocals}
+use Rattle.ics_series.specs.AgendaParts.{part_sources}
+use Rattle.ics_series.specs.Chosen.{IsMaster, SubjectSeen}
+use Rattle.ics_series.specs.Inner.Kept.{IsEventOfMaster, IsKeptIn, IsPartOf}
+use Rattle.ics_series.specs.PlacedEvents.{Placed}
+use Rattle.ics_series.specs.Sources.{recurring}
+use Rattle.ics_series.specs.declared.part.Part.{Part}
+use Rattle.ics_series.specs.declared.part.Part.TheVariants.{Singles, Series}
+use Rattle.ics_series.proofs.AheadLemmas.{IsOfFolder}
+use Rattle.ics_series.proofs.OccursLemmas.{master-subject}
+use Rattle.ics_series.proofs.VersionLemmas.{one-chosen}
+
+-- all of a list, and one behind them
+pub all-last : {X : Type 0} (xs : List X) (x : X) (P : X → Type 0) → AllByRecursion P (xs ++ x ∷ []) → AllByRecursion P xs × P x
+all-last [] x P all = (tt, all.0)
+all-last (y ∷ xs) x P all = let rest = all-last xs x P all.1 in ((all.0, rest.0), rest.1)
+
+module _ (files : List FileSaid) (display : Clock) where
+  abbrev sub : List ℕ → SubjectSeen
+  sub uid = record { uid = uid; recurrence = None }
+
+  -- two masters with one UID are one
+  one-master : (p q : Placed) → IsMaster files display p → IsMaster files display q → p.event.uid ≡ q.event.uid → p ≡ q
+  one-master p q h k u = one-chosen h.chosen k.chosen (master-subject files display p h ∙ (ap sub u ∙ sym (master-subject files display q k)))
+
+  -- so what is known of a master with an event's UID is known of that event
+  pub kept-own : (event : Event) (kept : Box KeptLocals) (by : Placed) → IsMaster files display by → by.event ≡ event
+      → IsKeptIn files display (Some kept) → kept.value.event.now.uid ≡ event.uid → IsKeptOf event (Some kept)
+  kept-own event kept by is e known uid = ∥∥₁_elim known (event-set kept.value.event.now event) (λ h.
+      let same = one-master h.0 by h.1 is (sym (ap (λ (v : Event). v.uid) h.2) ∙ (uid ∙ sym (ap (λ (v : Event). v.uid) e))) in
+      h.2 ∙ (ap (λ (p : Placed). p.event) same ∙ e))
+
+  part-of : (p : Part) (rest : List Source) → AllByRecursion (IsOfFolder files display) (recurring (part_sources p ++ rest))
+      → IsPartOf files display p × AllByRecursion (IsOfFolder files display) (recurring rest)
+  part-of (Singles s) rest all = (tt, all)
+  part-of (Series s) rest all = (∣ (all.0.by, all.0.is, ap (λ m. m.event) all.0.same) ∣₁, all.1)
+
+  -- the feeds of a day's agenda are parts of masters
+  pub parts-of : {L : Type 0} (feed : L → Part) (leads : List L)
+      → AllByRecursion (IsOfFolder files display) (recurring (flat_map (λ l. part_sources (feed l)) leads))
+      → AllByRecursion (λ l. IsPartOf files display (feed l)) leads
+  parts-of feed [] all = tt
+  parts-of feed (l ∷ leads) all =
+      let both = part-of (feed l) (flat_map (λ l. part_sources (feed l)) leads) all in
+      (both.0, parts-of feed leads both.1)
+
+  -- what a series that ended gives back
+  pub kept-of-series : (event : Event) (kept : Option (Box KeptLocals)) → IsEventOfMaster files display event → IsKeptOf event kept
+      → IsKeptIn files display kept
+  kept-of-series event None is of = tt
+  kept-of-series event (Some k) is of = subst (IsEventOfMaster files display) (sym of) is
