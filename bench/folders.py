@@ -1,4 +1,5 @@
 """Writes the folders that `make bench` measures, each once, below bench/data."""
+import datetime
 import os
 
 LIMIT = 16 * 1024 * 1024
@@ -50,6 +51,16 @@ def once(count, length):
         lines += ['BEGIN:VEVENT', 'UID:%d@example.org' % number, 'DTSTAMP:20000101T000000Z',
                   'DTSTART:200001%02dT%02d%02d00Z' % (number % 28 + 1, number // 28 % 24, number % 60),
                   'DURATION:' + length, 'SUMMARY:Event %d' % number, 'END:VEVENT']
+    return calendar(lines)
+
+
+def spaced(count, apart, length):
+    """Events of dates that start once, the first on 2024-01-01, so many days apart and of one length."""
+    lines = []
+    for number in range(count):
+        day = datetime.date(2024, 1, 1) + datetime.timedelta(number * apart)
+        lines += ['BEGIN:VEVENT', 'UID:%d@example.org' % number, 'DTSTAMP:20240101T000000Z',
+                  'DTSTART;VALUE=DATE:' + day.strftime('%Y%m%d'), 'DURATION:' + length, 'SUMMARY:Event %d' % number, 'END:VEVENT']
     return calendar(lines)
 
 
@@ -262,6 +273,10 @@ ROWS = [
      ['2000-01-01', '2099-12-31', '--every-day']),
     ('1,000 of them, under a year of days', lambda: [('a.ics', once(1_000, 'P36525D'))],
      ['2024-01-01', '366d', '--every-day']),
+    ('10,000 events of 30 days, 20 days apart', lambda: [('a.ics', spaced(10_000, 20, 'P30D'))],
+     ['2024-01-01', '200000d', '--every-day']),
+    ('10,000 events a day apart, 300,000 days', lambda: [('a.ics', spaced(10_000, 1, 'P1D'))],
+     ['2024-01-01', '300000d', '--every-day']),
     ('200 weekly rules, each day of a year', lambda: weekly(200),
      ['2024-01-01', '366d', '--every-day']),
     ('the same with COUNT', lambda: [('a.ics', recurring(200, '192801%02dT%02d%02d00Z', 'FREQ=WEEKLY;COUNT=10000'))],

@@ -169,6 +169,31 @@ def since_0001(count, parts, *more):
     return calendar([*swung(*parts), *seconds(count, '', *more, since='00010101', name='odd')])
 
 
+def removed(count, rule):
+    """An event that recurs by a rule from 1 July 2024 on, of which so many days are removed."""
+    days = ','.join((datetime.date(2024, 7, 1) + datetime.timedelta(days=number)).strftime('%Y%m%d') for number in range(count))
+    return calendar(['BEGIN:VEVENT', 'UID:0@example.org', 'DTSTART:20240701T000000Z', 'RRULE:' + rule, 'EXDATE;VALUE=DATE:' + days, 'END:VEVENT'])
+
+
+def running(count, name, *more):
+    """A start in 2018, a PERIOD of a hundred years two days later, and so many more, five minutes apart, from 1 January 2019 on."""
+    starts = ['20180103T000000', *('2019' + at[4:] for at in stamps(count, 300))]
+    return ['20180101T000000', 'RDATE%s;VALUE=PERIOD:' % name + ','.join(at + '/P36525D' for at in starts), *more]
+
+
+def once_in(start, *more):
+    """An event at this local."""
+    return calendar(['BEGIN:VEVENT', 'UID:0@example.org', 'DTSTART:' + start, *more, 'END:VEVENT'])
+
+
+def yearly_since(count, parts):
+    """So many yearly events, from the years 2 and later on, in a time zone of these observances."""
+    lines = zone('odd', *parts)
+    for year in range(2, 2 + count):
+        lines += ['BEGIN:VEVENT', 'UID:%d' % year, 'DTSTART;TZID=odd:%04d0701T000000' % year, 'RRULE:FREQ=YEARLY', 'END:VEVENT']
+    return calendar(lines)
+
+
 def faulty(count):
     """So many events without a start."""
     return calendar([line for number in range(count) for line in ('BEGIN:VEVENT', 'UID:%d' % number, 'END:VEVENT')])
@@ -197,6 +222,10 @@ LEAP_END = [part('STANDARD', '0001010%dT0000%02d' % (number + 1, number), '-2359
 LONG_AGO = 'RDATE;VALUE=DATE:' + ','.join('1000%02d%02d' % (month, day) for month in range(1, 11) for day in range(1, 21, 2))
 THIRTY = 'EXDATE;TZID=odd:' + ','.join('%04d0701T000000' % year for year in range(1600, 2200, 20))
 FAR = 'RDATE;TZID=odd:' + ','.join('%04d0701T120000' % year for year in range(2100, 8100, 150))
+# A month has one first Monday, and no week has two of these days.
+NO_MONDAY = 'FREQ=MONTHLY;BYDAY=1MO;BYSETPOS=2'
+NO_WEEK = 'FREQ=WEEKLY;BYMONTHDAY=1,8,15,22;BYDAY=%s;BYSETPOS=2' % WEEK
+PLACES = 'FREQ=MINUTELY;BYSECOND=%s;BYSETPOS=%s;COUNT=4294967295' % (EACH, EACH[2:] + ',60')
 
 # name, file, words, how many loops it may take, and how many MiB
 ROWS = [
@@ -320,6 +349,32 @@ ROWS = [
      ['2024-01-01', '36525d'], 2, 32),
     ('a second of each day under COUNT, 4 rules, each day of ten years',
      lambda: rules(4, 'FREQ=SECONDLY;BYHOUR=7;BYMINUTE=3;BYSECOND=0;COUNT=4294967295'), ['2024-01-01', '3660d', '--every-day'], 4, 32),
+    ('months without a day, 36,525 days long, each day of a hundred years', lambda: rules(1, NO_MONDAY, LONG, 'RDATE:20240101T000000Z'),
+     ['2024-01-02', '36500d', '--every-day'], 2, 32),
+    ('5 rules of weeks without a day, 36,525 days long, COUNT, each day of a year', lambda: rules(5, NO_WEEK + ';COUNT=9999', LONG, 'RDATE:20240101T000000Z'),
+     ['2024-01-02', '366d', '--every-day'], 2, 32),
+    ('weeks without a day beside a PERIOD of ages, each day of a hundred years',
+     lambda: rules(1, NO_WEEK, 'RDATE;VALUE=PERIOD:00010102T000000Z/97900101T000000Z'), ['2024-01-02', '36500d', '--every-day'], 4, 32),
+    ('6 rules of seconds that seldom match, 31 days long, each day of a hundred years',
+     lambda: rules(6, 'FREQ=SECONDLY;INTERVAL=1637;BYMINUTE=7,37;BYSECOND=0', 'DURATION:P31D'), ['2024-01-02', '36525d', '--every-day'], 8, 32),
+    ('places of each minute under COUNT, 55 removed days, each day', lambda: removed(55, PLACES), ['2024-07-01', '55d', '--limit', '1', '--every-day'], 1, 32),
+    ('seconds under COUNT, 94 removed days, each day', lambda: removed(94, 'FREQ=SECONDLY;COUNT=4294967295'),
+     ['2024-07-01', '94d', '--limit', '1', '--every-day'], 1, 32),
+    ('15 PERIODs of a hundred years on a removed day, by two clocks that turn as leap years end, each day of ten years',
+     lambda: in_zone(LEAP_END, *running(15, ';TZID=odd', 'EXDATE;VALUE=DATE:20190101')), ['2024-01-01', '3660d', '--every-day'], 4, 32),
+    ('220 PERIODs of a hundred years and as many exceptions at them, by the clock of New York, each day of ten years',
+     lambda: once_in(*running(220, '', 'EXDATE:' + ','.join('2019' + at[4:] for at in stamps(220, 300)))),
+     ['2024-01-01', '3660d', '--every-day', *NEW_YORK], 8, 32),
+    ('450 further dates since 1700 behind a PERIOD of ages, each day of a hundred years by the clock of New York',
+     lambda: once_in('16990101T000000', 'RDATE;VALUE=PERIOD:16990102T000000/97900101T000000',
+                     'RDATE:' + ','.join('%d%02d01T120000' % (year, month) for year in range(1700, 2000, 8) for month in range(1, 13))),
+     ['2024-01-01', '36525d', '--every-day', *NEW_YORK], 8, 32),
+    ('days of 36,525 days by two clocks that turn each second of a 29 February that is a Monday',
+     lambda: in_zone(ruled(2, 'FREQ=MONTHLY;BYMONTHDAY=29;BYMONTH=2;BYDAY=MO;' + by(HOURS, EACH, EACH)), '00010701T000000', 'RRULE:FREQ=DAILY', LONG),
+     DAY, 2, 32),
+    ('56 events since the year 2 in a zone of 26 observances by places in a year, a window of ages, limit 1',
+     lambda: yearly_since(56, ruled(26, 'FREQ=YEARLY;BYDAY=%s;BYSETPOS=%s' % (WEEK, ','.join(str(day) for day in range(1, 362, 30))))),
+     AGES[:2] + AGES[3:], 24, 32),
     ('400,000 faulty events, --keep-going', lambda: faulty(400_000), [*DAY, '--keep-going'], 12, 256),
 ]
 
