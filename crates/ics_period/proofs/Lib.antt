@@ -14,3 +14,5 @@ mod RunLemmas
 mod WeekDays
 mod NearLemmas
 mod PlaceLemmas
+pub mod ClockLemmas
+pub mod StepsLemmas

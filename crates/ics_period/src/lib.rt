@@ -13,6 +13,7 @@ mod part;
 mod recurrence_period;
 mod runs;
 mod step;
+mod steps;
 mod time;
 mod weeks;
 
@@ -29,4 +30,5 @@ pub use part::{PlacesPart, WeekdaysPart};
 pub use recurrence_period::ranks::listed_below;
 pub use recurrence_period::{RecurrencePeriod, clock_set, first_local, next_second};
 pub use step::{in_step, period_of};
+pub use steps::steps_out;
 pub use time::{lets, lets_clock};

@@ -33,7 +33,7 @@ impl Model for PlacesPart {
 
 impl PlacesPart {
     /// The part of these places.
-    pub(crate) fn new(list: WideOrdinals) -> PlacesPart
+    pub fn new(list: WideOrdinals) -> PlacesPart
         ensures { result ≡ list }
     {
         let absent = list.is_empty();
