@@ -1,6 +1,6 @@
 -- What a rule chooses is counted period by period.
-use Rattle.std.proofs.Common.{◌≡◌, ◌≢◌, ℕ, suc, ◌+◌, ◌-◌, ◌<◌, ◌≤◌, inl, inr, Bool, true, false, ◌&&◌, refl, sym, ap, ◌∙◌, arith}
-use Rattle.std.proofs.lemmas.Bool.{cases_lt, ne_eqb}
+use Rattle.std.proofs.Common.{◌≡◌, ◌≢◌, ℕ, suc, ◌+◌, ◌-◌, ◌<◌, ◌≤◌, inl, inr, Bool, true, false, ◌&&◌, Some, refl, sym, ap, ◌∙◌, arith}
+use Rattle.std.proofs.lemmas.Bool.{and_right, cases_lt, ne_eqb}
 use Rattle.std.proofs.lemmas.Bool.Decides.{nat_tests}
 use Rattle.jiff_core.specs.Weekday.{monday_zero}
 use Rattle.ics_fields.specs.Ordinals.{lists_none_wide}
@@ -11,7 +11,7 @@ use Rattle.ics_period.specs.Candidates.{is_stepped, period_in}
 use Rattle.ics_period.specs.Ranks.{count, is_chosen}
 use Rattle.ics_period.specs.RecurrencePeriods.{first_local, IsPeriodOf, is_taken}
 use Rattle.ics_rule.specs.Cursors.{IsCounted}
-use Rattle.ics_rule.specs.Inner.Searches.{is_few, IsPassed, AllCounted, IsTurned, after_look}
+use Rattle.ics_rule.specs.Inner.Searches.{is_few, is_wanted, IsPassed, IsTurned, after_look}
 use Rattle.ics_period.proofs.PeriodLemmas.{begun, begins, first_in, period_mono, week_small, before_first}
 use Rattle.ics_period.proofs.Counts.{count_between, count-none, count_mono, count_most}
 use Rattle.ics_period.proofs.RankLemmas.{count_flat}
@@ -99,7 +99,7 @@ module _ (q : EffectiveRule) (start c limit : ℕ) (most : limit + 1 ≡ c + cou
 pub turned_first : {q : EffectiveRule} {start c number limit : ℕ} (was : Cursor) {p : RecurrencePeriod} → 1 ≤ c → number ≡ period_in q start →
     is_stepped (period_in q start) q.interval number ≡ true → IsPeriodOf q p × (p.number ≡ number)
     → limit ≡ c - 1 + count (start + 1) (is_taken q.positions (lists_none_wide q.positions) p)
-    → IsTurned q start c number (record (after_look was p 0) { limit = limit }) p
+    → IsTurned q start (Some c) number (record (after_look was p 0) { limit = limit }) p
 turned_first {q = q} {start = start} was {p = p} positive e step (own, same) limit =
     let here : is_stepped (period_in q start) q.interval p.number ≡ true = rw same step in
     let back : count (first_local q.frequency (monday_zero q.week_start) p.number) (is_chosen q start) ≡ 0 = rw (same, e) (none_before_first q start) in
@@ -116,7 +116,7 @@ turned_first {q = q} {start = start} was {p = p} positive e step (own, same) lim
 -- each further look
 pub turned_on : {q : EffectiveRule} {start c number before : ℕ} {o p : RecurrencePeriod} (was : Cursor) →
     IsLeft q start c number before was.counted was.limit o → is_stepped (period_in q start) q.interval number ≡ true → IsPeriodOf q p → p.number ≡ number
-    → IsTurned q start c number (after_look was p (was.counted + before)) p
+    → IsTurned q start (Some c) number (after_look was p (was.counted + before)) p
 turned_on {q = q} {start = start} was left step product same = record {
   held = refl;
   product = product;
@@ -129,10 +129,11 @@ turned_on {q = q} {start = start} was left step product same = record {
 }
 
 pub counted_out : {q : EffectiveRule} {start c number before counted limit : ℕ} {o : RecurrencePeriod} →
-    IsLeft q start c number before counted limit o → limit ≤ counted + before → AllCounted q start c number
-counted_out {q = q} {start = start} {c = c} {number = number} {limit = limit} left out n l =
-    not_few q start c limit left.counted.most (first_local q.frequency (monday_zero q.week_start) number) n
-    (let all = chosen_passed left in omega (arith, all, out)) l
+    IsLeft q start c number before counted limit o → limit ≤ counted + before
+    → (n : ℕ) → first_local q.frequency (monday_zero q.week_start) number ≤ n → is_wanted q start (Some c) n ≡ false
+counted_out {q = q} {start = start} {c = c} {number = number} {limit = limit} left out n l = and_right (is_chosen q start n) (is_few q start c n)
+    (not_few q start c limit left.counted.most (first_local q.frequency (monday_zero q.week_start) number) n
+    (let all = chosen_passed left in omega (arith, all, out)) l)
 
 -- a later step than one, up to the period of a place, before which so many locals are chosen
 pub record IsCountedStep (q : EffectiveRule) (start number target place chosen : ℕ) : Type 0 where

@@ -4,7 +4,7 @@ pub mod ChosenLemmas
 pub mod CursorLemmas
 pub mod NextLemmas
 pub mod CountLemmas
-pub mod CountingLemmas
+pub mod WalkLemmas
 pub mod QuietLemmas
 pub mod Samples
 pub mod UntilLemmas

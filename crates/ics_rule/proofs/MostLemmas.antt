@@ -18,9 +18,9 @@ use Rattle.ics_fields.specs.declared.frequency.Frequency.TheVariants.{Secondly, 
 use Rattle.ics_period.specs.declared.effective_rule.EffectiveRule.{EffectiveRule}
 use Rattle.ics_period.specs.PeriodNumbers.{day_of, month_number, period}
 use Rattle.ics_period.specs.Candidates.{lets, lets_place, lets_date, lets_clock, is_candidate_in, in_step, period_in}
-use Rattle.ics_period.specs.DateParts.{names_weekdays_alone}
 use Rattle.ics_period.specs.Ranks.{count, is_beside, is_placed, is_chosen, rank, size}
 use Rattle.ics_period.specs.RecurrencePeriods.{month_start, first_local}
+pub use Rattle.ics_period.proofs.ClockLemmas.{same_time}
 use Rattle.ics_period.proofs.Counts.{count-same, count-suc, count-add, count-none, count-from, count-product, count_every, count_mono, count_most, count_some}
 use Rattle.ics_period.proofs.DateLemmas.{weekday_in, weekday_out, weekdays_alone}
 use Rattle.ics_period.proofs.MonthDays.{number_let_in}
@@ -180,26 +180,22 @@ month_place e =
       omega (arith, month_size p, size, ap month_start same, ap (λ z. month_start (suc z)) same),
     )
 
--- by its weekdays a rule without BYYEARDAY allows no fewer days
-module _ (q : EffectiveRule) (absent : lists_none_wide q.year_days ≡ true) where
-  pub alone : names_weekdays_alone (of_weekdays q) ≡ true
-  alone = rw absent refl
+-- by its weekdays a rule allows no fewer days
+pub weekday_open : (q : EffectiveRule) (e : ℕ) → lets_date q e ≡ true → lets_date (of_weekdays q) e ≡ true
+weekday_open q e is = by (lists_no_weekday q.weekdays || contains q.weekdays.plain (weekday_of e)) refl
+  where
+    or_last : (a b c : Bool) → c ≡ false → (a || b || not c) ≡ true
+    or_last a b c h = grind arith
 
-  pub weekday_open : (e : ℕ) → lets_date q e ≡ true → lets_date (of_weekdays q) e ≡ true
-  weekday_open e is = by (lists_no_weekday q.weekdays || contains q.weekdays.plain (weekday_of e)) refl
-    where
-      or_last : (a b c : Bool) → c ≡ false → (a || b || not c) ≡ true
-      or_last a b c h = grind arith
+    numbered : (lists_no_weekday q.weekdays || contains q.weekdays.plain (weekday_of e)) ≡ false → (c : Bool)
+        → lists_none (numbers_of q.weekdays (weekday_of e)) ≡ c → lets_date (of_weekdays q) e ≡ true
+    numbered day true none = let no = sym is ∙ weekday_out q e day none in absurd cc
+    numbered day false some = weekdays_alone (of_weekdays q) e refl
+        ∙ or_last (lists_no_weekday q.weekdays) (contains q.weekdays.plain (weekday_of e)) (lists_none (numbers_of q.weekdays (weekday_of e))) some
 
-      numbered : (lists_no_weekday q.weekdays || contains q.weekdays.plain (weekday_of e)) ≡ false → (c : Bool)
-          → lists_none (numbers_of q.weekdays (weekday_of e)) ≡ c → lets_date (of_weekdays q) e ≡ true
-      numbered day true none = let no = sym is ∙ weekday_out q e day none in absurd cc
-      numbered day false some = weekdays_alone (of_weekdays q) e alone
-          ∙ or_last (lists_no_weekday q.weekdays) (contains q.weekdays.plain (weekday_of e)) (lists_none (numbers_of q.weekdays (weekday_of e))) some
-
-      by : (b : Bool) → (lists_no_weekday q.weekdays || contains q.weekdays.plain (weekday_of e)) ≡ b → lets_date (of_weekdays q) e ≡ true
-      by true day = weekday_in (of_weekdays q) e day alone
-      by false day = numbered day (lists_none (numbers_of q.weekdays (weekday_of e))) refl
+    by : (b : Bool) → (lists_no_weekday q.weekdays || contains q.weekdays.plain (weekday_of e)) ≡ b → lets_date (of_weekdays q) e ≡ true
+    by true day = weekday_in (of_weekdays q) e day refl
+    by false day = numbered day (lists_none (numbers_of q.weekdays (weekday_of e))) refl
 
 -- its days that the rule allows
 module _ (q : EffectiveRule) (a : ℕ) where
@@ -262,36 +258,29 @@ module _ (q : EffectiveRule) (a : ℕ) where
         ∙ ap (λ z. contains_wide q.year_days.front (year_day_of e) || contains_wide q.year_days.back z) (sym back)
         ∙ listed_there (lists_none_wide q.year_days) some allowed
 
-  -- without BYYEARDAY, in each week at most as many as the weekdays allow
-  module _ (absent : lists_none_wide q.year_days ≡ true) where
-    weeks_of : (k : ℕ) → count (7 * k) (λ j. lets_date (of_weekdays q) (a + j)) ≡ k * count 7 (lets_date (of_weekdays q))
-    weeks_of zero =
-        let p = λ (j : ℕ). lets_date (of_weekdays q) (a + j) in
-        let none = count-none 0 p (λ m l. absurd (omega (arith, l))) in
-        let empty = ap (λ x. count x p) (let e : 7 * 0 ≡ 0 = omega arith in e) in
-        omega (arith, none, empty)
-    weeks_of (suc k) =
-        let before = weeks_of k in
-        let p = λ (j : ℕ). lets_date (of_weekdays q) (a + j) in
-        let sum = ap (λ x. count x p) (let e : 7 * suc k ≡ 7 * k + 7 = omega arith in e) ∙ count-add (7 * k) 7 p in
-        let one = count-same 7 (λ j. p (7 * k + j)) (λ j. lets_date (of_weekdays q) (a + 7 * k + j))
-        (λ j l. ap (lets_date (of_weekdays q)) (let e : a + (7 * k + j) ≡ a + 7 * k + j = omega arith in e)) in
-        let any = count_cycle 7 (lets_date (of_weekdays q))
-        (λ m. date_alike (of_weekdays q) (alone q absent) (omega arith) (m + 7) m (inr (omega arith))) (a + 7 * k) in
-        omega (arith, before, sum, one, any)
+  -- in each week at most as many as the weekdays allow
+  weeks_of : (k : ℕ) → count (7 * k) (λ j. lets_date (of_weekdays q) (a + j)) ≡ k * count 7 (lets_date (of_weekdays q))
+  weeks_of zero =
+      let p = λ (j : ℕ). lets_date (of_weekdays q) (a + j) in
+      let none = count-none 0 p (λ m l. absurd (omega (arith, l))) in
+      let empty = ap (λ x. count x p) (let e : 7 * 0 ≡ 0 = omega arith in e) in
+      omega (arith, none, empty)
+  weeks_of (suc k) =
+      let before = weeks_of k in
+      let p = λ (j : ℕ). lets_date (of_weekdays q) (a + j) in
+      let sum = ap (λ x. count x p) (let e : 7 * suc k ≡ 7 * k + 7 = omega arith in e) ∙ count-add (7 * k) 7 p in
+      let one = count-same 7 (λ j. p (7 * k + j)) (λ j. lets_date (of_weekdays q) (a + 7 * k + j))
+      (λ j l. ap (lets_date (of_weekdays q)) (let e : a + (7 * k + j) ≡ a + 7 * k + j = omega arith in e)) in
+      let any = count_cycle 7 (lets_date (of_weekdays q))
+      (λ m. date_alike (of_weekdays q) refl (omega arith) (m + 7) m (inr (omega arith))) (a + 7 * k) in
+      omega (arith, before, sum, one, any)
 
-    on_weeks : (weeks : ℕ) → count (a + 7 * weeks) is_open ≤ weeks * count 7 (lets_date (of_weekdays q))
-    on_weeks weeks =
-        let fewer = count_fewer (7 * weeks) (λ k. lets_date q (a + k)) (λ k. lets_date (of_weekdays q) (a + k))
-        (λ k l is. weekday_open q absent (a + k) is) in
-        omega (arith, from_first (7 * weeks), fewer, weeks_of weeks)
-
-  among : (len weeks most : ℕ) → len ≤ 7 * weeks → count (a + len) is_open ≤ most → (b : Bool) → lists_none_wide q.year_days ≡ b
-      → count (a + len) is_open ≤ cond b (min most (weeks * count 7 (lets_date (of_weekdays q)))) most
-  among len weeks most inside few false e = few
-  among len weeks most inside few true e =
+  among : (len weeks most : ℕ) → len ≤ 7 * weeks → count (a + len) is_open ≤ most
+      → count (a + len) is_open ≤ min most (weeks * count 7 (lets_date (of_weekdays q)))
+  among len weeks most inside few =
       let up = count_mono (a + len) (a + 7 * weeks) is_open (omega (arith, inside)) in
-      omega (arith, up, few, on_weeks e weeks)
+      let fewer = count_fewer (7 * weeks) (λ k. lets_date q (a + k)) (λ k. lets_date (of_weekdays q) (a + k)) (λ k l is. weekday_open q (a + k) is) in
+      omega (arith, up, few, from_first (7 * weeks), fewer, weeks_of weeks)
 
 -- the period of a day
 period_at : (f : Frequency) (w p e : ℕ) → (seconds_of f ≡ 0) ⊎ (86_400 < seconds_of f) → first_day f w p ≤ e → e < first_day f w (suc p)
@@ -310,7 +299,7 @@ open_days : (q : EffectiveRule) (x len : ℕ) (f : Frequency) → q.frequency �
 unfolding days
 open_days q x len Weekly e long end short =
     let a = first_day Weekly (monday_zero q.week_start) x in
-    among q a len 1 7 short (let most = at_most q a len in omega (arith, most, short)) (lists_none_wide q.year_days) refl
+    among q a len 1 7 short (let most = at_most q a len in omega (arith, most, short))
 open_days q x len Monthly e long end short =
     let w = monday_zero q.week_start in
     let a = first_day Monthly w x in
@@ -320,7 +309,7 @@ open_days q x len Monthly e long end short =
     sym (ap month_number day) ∙ period_at Monthly w x (a + k) long (omega arith) (omega (arith, l, end))) in
     among q a len 5 (listed_in_month q.month_days) (omega (arith, short))
     (listed_days q a (contains q.month_days.front) (contains q.month_days.back) short (lists_none q.month_days)
-    (month_day_in q a x len begin (omega (arith, end, next)) here)) (lists_none_wide q.year_days) refl
+    (month_day_in q a x len begin (omega (arith, end, next)) here))
 open_days q x len Yearly e long end short =
     let w = monday_zero q.week_start in
     let a = first_day Yearly w x in
@@ -330,7 +319,7 @@ open_days q x len Yearly e long end short =
     sym (ap year_of day) ∙ period_at Yearly w x (a + k) long (omega arith) (omega (arith, l, end))) in
     among q a len 53 (listed_in_year q.year_days) (omega (arith, short))
     (listed_days q a (contains_wide q.year_days.front) (contains_wide q.year_days.back) short (lists_none_wide q.year_days)
-    (year_day_in q a x len begin (omega (arith, end, next)) here)) (lists_none_wide q.year_days) refl
+    (year_day_in q a x len begin (omega (arith, end, next)) here))
 open_days q x len f e long end short = grind arith
 
 -- the times of a day
@@ -339,14 +328,6 @@ day_within q = count-same 86_400 (lets_within Daily q) (lets_clock q) (λ k l. s
 
 pub day_times : (q : EffectiveRule) → count 86_400 (lets_clock q) ≡ count 24 (lets q.hours) * count 60 (lets q.minutes) * count 60 (lets q.seconds)
 day_times q = sym (day_within q) ∙ size_daily q
-
--- the clock is that of the time of day
-pub same_time : (q : EffectiveRule) (m : ℕ) → lets_clock q (m % 86_400) ≡ lets_clock q m
-same_time q m =
-    let hour : m % 86_400 / 3_600 % 24 ≡ m / 3_600 % 24 = omega arith in
-    let minute : m % 86_400 / 60 % 60 ≡ m / 60 % 60 = omega arith in
-    let second : m % 86_400 % 60 ≡ m % 60 = omega arith in
-    rw (hour, minute, second) refl
 
 -- a longer period has at most the times of a day on each day that is allowed
 pub days_size : (q : EffectiveRule) (start n : ℕ) → (seconds_of q.frequency ≡ 0) ⊎ (86_400 < seconds_of q.frequency)

@@ -10,7 +10,6 @@ use Rattle.ics_period.specs.declared.effective_rule.EffectiveRule.{EffectiveRule
 use Rattle.ics_rule.specs.declared.cursor.Cursor.{Cursor}
 use Rattle.ics_period.specs.PeriodNumbers.{day_of, period, rules_end}
 use Rattle.ics_period.specs.Candidates.{is_candidate_in, in_step, lets_date, lets_clock, period_in}
-use Rattle.ics_period.specs.DateParts.{names_weekdays_alone}
 use Rattle.ics_period.specs.Ranks.{is_chosen, is_placed}
 use Rattle.ics_rule.specs.Cursors.{IsCursorIn}
 use Rattle.ics_rule.specs.Inner.Searches.{NoneWanted, IsWalked}
@@ -18,7 +17,7 @@ use Rattle.ics_rule.specs.Inner.Rounds.{seconds_of}
 use Rattle.ics_rule.specs.Inner.OpenPeriods.{cycle, of_weekdays, may_let, IsClosedTo}
 use Rattle.ics_rule.proofs.RoundLemmas.{date_alike}
 use Rattle.ics_rule.proofs.StepLemmas.{stepped_parts}
-use Rattle.ics_rule.proofs.MostLemmas.{alone, weekday_open, same_time}
+use Rattle.ics_rule.proofs.MostLemmas.{weekday_open, same_time}
 use Rattle.ics_rule.proofs.CursorLemmas.{held_mono, moved_none, not_wanted}
 use Rattle.ics_fields.specs.Locals.{calendar_end}
 
@@ -59,15 +58,14 @@ place_in : (f : Frequency) (w n : ℕ) (by_week : Bool) → 0 < seconds_of f →
 place_in f w n true h u = grind arith
 place_in f w n false h u = grind arith
 
--- what a rule allows repeats with it
-let_again : (q : EffectiveRule) (n : ℕ) → 0 < seconds_of q.frequency → (by_week : Bool) → (by_week ≡ true → names_weekdays_alone q ≡ true)
-    → may_let q by_week (n % cycle by_week) ≡ may_let q by_week n
-let_again q n fine false alone = same_time q n
-let_again q n fine true alone =
+-- what the times and weekdays of a rule allow repeats with it
+let_again : (q : EffectiveRule) (n : ℕ) (by_week : Bool) → may_let (of_weekdays q) by_week (n % cycle by_week) ≡ may_let (of_weekdays q) by_week n
+let_again q n false = same_time (of_weekdays q) n
+let_again q n true =
     let hour : n % 604_800 / 3_600 % 24 ≡ n / 3_600 % 24 = omega arith in
     let minute : n % 604_800 / 60 % 60 ≡ n / 60 % 60 = omega arith in
     let second : n % 604_800 % 60 ≡ n % 60 = omega arith in
-    let date = date_alike q (alone refl) fine (day_of (n % 604_800)) (day_of n) (inr (omega arith)) in
+    let date = date_alike (of_weekdays q) refl (omega arith) (day_of (n % 604_800)) (day_of n) (inr (omega arith)) in
     ap (λ x. x && lets_clock q (n % 604_800)) date ∙ rw (hour, minute, second) refl
 
 let_may : (a d k : Bool) → (a ≡ true → d ≡ true) → k ≡ true → ((not a || d) && k) ≡ true
@@ -75,9 +73,9 @@ let_may a d k h e = grind arith
 
 -- if the units that steps can be are closed, nothing is chosen
 pub no_time : (q : EffectiveRule) (start d : ℕ) (by_week : Bool) → 0 < seconds_of q.frequency → seconds_of q.frequency ≤ 86_400 → 0 < d
-    → (by_week ≡ true → lists_none_wide q.year_days ≡ true) → (q.interval % d ≡ 0) × ((cycle by_week / seconds_of q.frequency) % d ≡ 0)
+    → (q.interval % d ≡ 0) × ((cycle by_week / seconds_of q.frequency) % d ≡ 0)
     → IsClosedTo (of_weekdays q) by_week (seconds_of q.frequency) d (period_in q start % d) (cycle by_week) → (n : ℕ) → is_chosen q start n ≡ false
-no_time q start d by_week fine unit some absent whole closed n = false_from_ne_true (is_chosen q start n) (λ yes.
+no_time q start d by_week fine unit some whole closed n = false_from_ne_true (is_chosen q start n) (λ yes.
     let candidate = (and_parts (is_candidate_in q start n) (is_placed q start (lists_none_wide q.positions) n) yes).0 in
     let both = and_parts (in_step q start n && lets_date q (day_of n)) (lets_clock q n) candidate in
     let date = and_parts (in_step q start n) (lets_date q (day_of n)) both.0 in
@@ -93,8 +91,8 @@ no_time q start d by_week fine unit some absent whole closed n = false_from_ne_t
     let own = ap (λ x. x % d) (place_in q.frequency (monday_zero q.week_start) n by_week fine unit)
     ∙ rest_of d (n % c / u) (n / c * (c / u)) some (rest_times d (c / u) (n / c) some whole.1) in
     let none = closed (n % c) (mod-lt n (long by_week)) (sym own ∙ one) in
-    let may = let_may by_week (lets_date (of_weekdays q) (day_of n)) (lets_clock q n) (λ e. weekday_open q (absent e) (day_of n) date.1) both.1 in
-    let no = sym may ∙ sym (let_again (of_weekdays q) n (omega arith) by_week (λ e. alone q (absent e))) ∙ none in
+    let may = let_may by_week (lets_date (of_weekdays q) (day_of n)) (lets_clock q n) (λ e. weekday_open q (day_of n) date.1) both.1 in
+    let no = sym may ∙ sym (let_again q n by_week) ∙ none in
     absurd cc)
   where
     long : (b : Bool) → 0 < cycle b

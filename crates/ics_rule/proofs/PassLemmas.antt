@@ -1,14 +1,18 @@
 -- Steps over periods that hold nothing.
-use Rattle.std.proofs.Common.{◌≡◌, ℕ, ◌+◌, ◌-◌, ◌*◌, ◌/◌, ◌%◌, ◌<◌, ◌≤◌, inl, inr, Bool, true, false, ◌||◌, ◌&&◌, ◌==◌, max, refl, sym, ap, ◌∙◌, arith}
-use Rattle.std.proofs.lemmas.Bool.{cases_lt}
+use Rattle.std.proofs.Common.{◌≡◌, ℕ, ◌+◌, ◌-◌, ◌*◌, ◌/◌, ◌%◌, ◌<◌, ◌≤◌, inl, inr, Bool, true, false, ◌&&◌, max, sym, ap, ◌∙◌, arith}
+use Rattle.std.proofs.lemmas.Bool.{and_right, cases_lt}
+use Rattle.std.proofs.Math.Nat.{add-mul-mod_self_right}
 use Rattle.jiff_core.specs.Weekday.{monday_zero}
-use Rattle.ics_fields.specs.Sets.{contains, IsLeastFrom}
+use Rattle.ics_fields.specs.Sets.{IsLeastFrom}
+use Rattle.ics_fields.specs.declared.frequency.Frequency.TheVariants.{Secondly}
 use Rattle.ics_period.specs.declared.effective_rule.EffectiveRule.{EffectiveRule}
-use Rattle.ics_period.specs.Candidates.{lets, lets_date, lets_clock, is_stepped, period_in}
-use Rattle.ics_period.specs.RecurrencePeriods.{first_local, has_time}
+use Rattle.ics_period.specs.PeriodNumbers.{day_of, period}
+use Rattle.ics_period.specs.Candidates.{lets_date, lets_clock, is_stepped, period_in}
+use Rattle.ics_period.specs.RecurrencePeriods.{first_local}
 use Rattle.ics_rule.specs.Inner.Searches.{NoneLetIn, IsNextOpen}
-use Rattle.ics_period.proofs.ScanLemmas.{time_at}
 use Rattle.ics_period.proofs.PeriodLemmas.{begun, begins, period_mono}
+use Rattle.ics_period.proofs.StepsLemmas.{step_between}
+use Rattle.ics_rule.proofs.StepLemmas.{stepped_parts, stepped_shown}
 
 -- the step of a local before which the rule lets nothing in
 pub step_open : {q : EffectiveRule} {first number begin place next : ℕ} → begin ≡ first_local q.frequency (monday_zero q.week_start) number → begin ≤ place →
@@ -23,6 +27,43 @@ step_open {q = q} {number = number} {place = place} e up none least = record {
   ];
 }
 
+-- the first step from a number on
+pub least_open : {q : EffectiveRule} {first number next : ℕ} → IsLeastFrom (is_stepped first q.interval) number next → IsNextOpen q first number next
+least_open {q = q} least = record {
+  step = least.passes;
+  low = least.low;
+  none = λ n l u stepped. absurd (let out = sym stepped ∙ least.least (period_in q n) l u in cc);
+}
+
+-- a step that comes after another
+pub open_on : {q : EffectiveRule} {first a b c : ℕ} → IsNextOpen q first a b → IsNextOpen q first b c → IsNextOpen q first a c
+open_on {q = q} {b = b} early late = record {
+  step = late.step;
+  low = omega (arith, early.low, late.low);
+  none = λ n l u stepped. elim (cases_lt (period_in q n) b) [
+    | inl before ↦ early.none n l before stepped
+    | inr more ↦ late.none n more u stepped
+  ];
+}
+
+-- steps of seconds whose time is not allowed are passed over
+pub timed_open : (q : EffectiveRule) {first step : ℕ} (out : ℕ) → q.frequency ≡ Secondly → 1 ≤ q.interval → is_stepped first q.interval step ≡ true
+    → ((k : ℕ) → k < out → lets_clock q (step + k * q.interval) ≡ false) → IsNextOpen q first step (step + out * q.interval)
+timed_open q {first = first} {step = step} out fine some stepped none = record {
+  step = (let on : step + out * i - first ≡ step - first + out * i = omega (arith, own.0) in
+      stepped_shown first i (step + out * i) (omega (arith, own.0)) (ap (λ x. x % i) on ∙ add-mul-mod_self_right (step - first) out i ∙ own.1));
+  low = omega arith;
+  none = λ n l u on. (let found = step_between first i step some own (stepped_parts first i (period_in q n) on) l u in
+      let same = sym (ap (λ f. period f (monday_zero q.week_start) n) fine) ∙ found.1.1 in
+      and_right (lets_date q (day_of n)) (lets_clock q n) (ap (lets_clock q) same ∙ none found.0 found.1.0));
+}
+  where
+    i : ℕ
+    i = q.interval
+
+    own : (first ≤ step) × ((step - first) % i ≡ 0)
+    own = stepped_parts first i step stepped
+
 -- one more number is left out
 pub one_out : (f : ℕ → Bool) (e : ℕ) {k : ℕ} → f e ≡ false → ((j : ℕ) → j < k → f (e + j) ≡ false) → (j : ℕ) → j < max k 1 → f (e + j) ≡ false
 one_out f e here none j h = grind arith
@@ -31,22 +72,6 @@ one_out f e here none j h = grind arith
 pub out_on : (f : ℕ → Bool) {from e k : ℕ} → ((m : ℕ) → from ≤ m → m < e → f m ≡ false) → ((j : ℕ) → j < k → f (e + j) ≡ false) → (m : ℕ) → from ≤ m →
     m < e + k → f m ≡ false
 out_on f {e = e} before none m l h = let rest = none (m - e) in grind (arith, cases_lt)
-
--- the readings of a whole day that the parts let in
-module _ (q : EffectiveRule) (hours minutes seconds : ℕ)
-    (h : (m : ℕ) → m < 24 → contains hours m ≡ ((true || (m == 0)) && lets q.hours m))
-    (i : (m : ℕ) → m < 60 → contains minutes m ≡ ((true || (m == 0)) && lets q.minutes m))
-    (s : (m : ℕ) → m < 60 → contains seconds m ≡ ((true || (m == 0)) && lets q.seconds m)) where
-  clock_is : (n : ℕ) → has_time hours minutes seconds (n % 86_400) ≡ lets_clock q n
-  clock_is n = time_at hours minutes seconds n ∙ rw (h (n / 3_600 % 24) (omega arith), i (n / 60 % 60) (omega arith), s (n % 60) (omega arith)) refl
-
-  pub second_next : (n : ℕ) {t : ℕ} → t < 86_400 → IsLeastFrom (has_time hours minutes seconds) (n % 86_400) t → (m : ℕ) → n ≤ m → m < n / 86_400 * 86_400 + t →
-      lets_clock q m ≡ false
-  second_next n small next m l u = sym (clock_is m) ∙ next.least (m % 86_400) (omega (arith, l, u, small)) (omega (arith, l, u, small))
-
-  pub second_none : (n : ℕ) → ((t : ℕ) → n % 86_400 ≤ t → has_time hours minutes seconds t ≡ false) → (m : ℕ) → n ≤ m → m < (n / 86_400 + 1) * 86_400 →
-      lets_clock q m ≡ false
-  second_none n none m l u = sym (clock_is m) ∙ none (m % 86_400) (omega (arith, l, u))
 
 -- no local is let in on a day that is not
 pub none_on_days : (q : EffectiveRule) (n day : ℕ) → ((e : ℕ) → n / 86_400 ≤ e → e < day → lets_date q e ≡ false) → NoneLetIn q n (max n (day * 86_400))

@@ -1,5 +1,5 @@
 -- What looks up to its place leave of a cursor under COUNT.
-use Rattle.std.proofs.Common.{◌≡◌, ℕ, ◌+◌, ◌-◌, ◌*◌, ◌<◌, ◌≤◌, inl, inr, true, false, Option, Some, None, MatchOption, is_some, min, refl, sym}
+use Rattle.std.proofs.Common.{◌≡◌, ℕ, ◌+◌, ◌-◌, ◌*◌, ◌<◌, ◌≤◌, true, false, Some, min, refl, sym}
 use Rattle.std.proofs.Common.{subst, ap, ◌∙◌, arith}
 use Rattle.std.proofs.lemmas.Bool.{cases_lt}
 use Rattle.std.proofs.lemmas.Bool.Decides.{nat_tests}
@@ -11,28 +11,22 @@ use Rattle.ics_period.specs.Candidates.{is_stepped, period_in}
 use Rattle.ics_period.specs.Ranks.{count, is_chosen}
 use Rattle.ics_period.specs.RecurrencePeriods.{first_local, IsPeriodOf}
 use Rattle.ics_rule.specs.Cursors.{fresh, IsCursorIn}
-use Rattle.ics_rule.specs.Inner.Searches.{is_chosen_within, IsNextWanted, IsNextOpen, after_look}
-use Rattle.ics_rule.specs.Inner.Rounds.{IsEvenRound, HasRound, IsPassedTo, CountsFrom, HasCountedTo}
+use Rattle.ics_rule.specs.Inner.Searches.{is_chosen_within, IsNextOpen, after_look}
+use Rattle.ics_rule.specs.Inner.Rounds.{IsEvenRound, IsPassedTo, CountsFrom, HasCountedTo}
 use Rattle.std.proofs.Math.Nat.{mul-le-mul_right}
-use Rattle.ics_period.proofs.PeriodLemmas.{begun, period_mono, before_next}
+use Rattle.ics_period.proofs.PeriodLemmas.{begun, period_mono}
 use Rattle.ics_period.proofs.Counts.{count_most}
 use Rattle.ics_rule.proofs.CountLemmas.{IsCountedStep, none_before_first}
 use Rattle.ics_rule.proofs.RoundLemmas.{repeats_often}
-use Rattle.ics_rule.proofs.EvenLemmas.{even_round, none_after}
 use Rattle.ics_rule.proofs.StepLemmas.{stepped_parts, none_between}
-use Rattle.ics_rule.proofs.CursorLemmas.{IsWalk, walk_ends, meets, moved_on, own_moved, looks_once}
-use Rattle.ics_rule.proofs.CountingLemmas.{IsCounting, step_first}
+use Rattle.ics_rule.proofs.CursorLemmas.{meets, moved_on, own_moved, looks_once}
+use Rattle.ics_rule.proofs.WalkLemmas.{step_first}
 use Rattle.ics_period.specs.PeriodNumbers.{rules_end}
 use Rattle.ics_fields.specs.Locals.{calendar_end}
 
 -- the period of a place is that of the last local before the next
 pub top_of : (q : EffectiveRule) (place number : ℕ) → number ≤ period_in q place → number ≤ period_in q (place + 1 - 1)
 top_of q place number h = grind arith
-
--- a walk up to the place that has not come past it
-pub counting_passed : {q : EffectiveRule} {start c number : ℕ} {before now : Cursor} → IsCounting q start c (before.place + 1) number before now →
-    number ≤ period_in q before.place → before.place < calendar_end → IsPassedTo q start c before now
-counting_passed counting h inside = grind (arith, own_moved)
 
 -- a period before that of the place has nothing from the place on
 pub none_within : (q : EffectiveRule) (start : ℕ) {number : ℕ} (place : ℕ) → number < period_in q place → (m : ℕ) → place ≤ m →
@@ -44,11 +38,6 @@ pub not_past : {q : EffectiveRule} {first number next end : ℕ} → 1 ≤ q.int
     is_stepped first q.interval end ≡ true → number < end
     → IsNextOpen q first (number + q.interval) next → IsNextOpen q first (number + q.interval) (min end next)
 not_past some here there h is_next = grind (arith, cases_lt, here, none_between)
-
--- an answer that is there
-pub there : (A : Type 0) (P : RecurrencePeriod → Type 0) (o : Option RecurrencePeriod) → MatchOption o A P → is_some o ≡ true → (p : RecurrencePeriod) × P p
-there A P None h some = absurd (cc)
-there A P (Some p) h some = (p, h)
 
 -- and looks on, at a later step
 pub passed_on : {q : EffectiveRule} {start c number target total : ℕ} {before after now : Cursor} {p : RecurrencePeriod} →
@@ -72,10 +61,6 @@ passed_on {q = q} {start = start} {c = c} {target = target} {total = total} {bef
     })
 
 -- steps are few
-pub counting_room : {q : EffectiveRule} {start c stop number : ℕ} {before now : Cursor} → IsCounting q start c stop number before now →
-    now.steps ≤ number + 1
-counting_room counting = let held = counting.walk.held in let few = counting.walk.moved.steps in grind arith
-
 pub turned_room : {q : EffectiveRule} {start c number : ℕ} {before after : Cursor} → HasCountedTo q start c number before after →
     after.steps ≤ number + 1
 turned_room {after = after} to = let few = subst (λ x. after.steps ≤ fresh x) to.turned.held to.walked.moved.steps in omega (arith, few, to.turned.number)
@@ -128,22 +113,3 @@ counted_reach {q = q} {target = target} {place = place} is = begun q.frequency (
 
 pub total_small : {q : EffectiveRule} {start number target place chosen : ℕ} → IsCountedStep q start number target place chosen → chosen ≤ place
 total_small is = let low = counted_reach is in let total = is.total in grind (arith, count_most)
-
--- a walk that finds nothing in a round finds nothing later
-pub walk_rounds_end : {q : EffectiveRule} {start stop number : ℕ} {before now : Cursor} {begin end : ℕ} → IsWalk q start None stop number before now →
-    stop ≤ rules_end → end < number → period_in q start ≤ begin → period_in q before.place ≤ begin
-    → (end < period_in q (stop - 1) → HasRound q begin end) → IsNextWanted q start None before.place stop None
-walk_rounds_end {q = q} {start = start} {stop = stop} {number = number} {before = before} {begin = begin} {end = end} walk h past low here round =
-    λ n l u. elim (cases_lt (period_in q n) number) [
-      | inl less ↦ walk.none n l less
-      | inr more ↦ elim (cases_lt end (period_in q (stop - 1))) [
-        | inr most ↦ walk_ends walk (omega (arith, most, past)) n l u
-        | inl less ↦
-            let is = round less in
-            none_after q start is.periods (even_round is.round) {begin = begin + 1} (omega (arith, is.some)) (omega (arith, low)) (λ m lm um.
-            let place = before_next q.frequency (monday_zero q.week_start) (begin + 1) before.place (omega (arith, here)) in
-            let from = begun q.frequency (monday_zero q.week_start) (begin + 1) m lm in
-            walk.none m (omega (arith, place, from)) (omega (arith, um, past, is.far)))
-            n (omega (arith, more, past, is.far)) (omega (arith, u, h))
-      ]
-    ]

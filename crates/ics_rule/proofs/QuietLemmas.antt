@@ -1,21 +1,21 @@
 -- Where a rule chooses nothing, as far as the parts of the date tell and the period that is held.
-use Rattle.std.proofs.Common.{◌≡◌, ℕ, zero, suc, ◌+◌, ◌-◌, ◌<◌, ◌≤◌, inl, inr, Bool, true, false, Some, refl, sym, ap, ◌∙◌, arith}
+use Rattle.std.proofs.Common.{◌≡◌, ℕ, zero, suc, ◌+◌, ◌-◌, ◌<◌, ◌≤◌, inl, inr, Bool, true, false, ◌&&◌, Some, refl, sym, ap, ◌∙◌, arith}
 use Rattle.std.proofs.lemmas.Bool.{and_parts, and_right, cases_lt, eqb-true}
 use Rattle.jiff_core.specs.Weekday.{monday_zero}
 use Rattle.ics_fields.specs.Ordinals.{lists_none_wide}
 use Rattle.ics_fields.specs.Sets.{IsLeastFrom}
 use Rattle.ics_period.specs.declared.effective_rule.EffectiveRule.{EffectiveRule}
 use Rattle.ics_period.specs.declared.recurrence_period.RecurrencePeriod.{RecurrencePeriod}
-use Rattle.ics_period.specs.PeriodNumbers.{rules_end}
 use Rattle.ics_period.specs.Candidates.{is_stepped, period_in}
 use Rattle.ics_period.specs.Ranks.{count, is_chosen}
 use Rattle.ics_period.specs.RecurrencePeriods.{first_local, holds, is_taken, IsPeriodOf}
 use Rattle.ics_rule.specs.Cursors.{IsCounted}
 use Rattle.ics_rule.specs.Inner.Quiet.{NoneChosen}
-use Rattle.ics_rule.specs.Inner.Searches.{is_few, NoneLetIn, NoneWanted}
+use Rattle.ics_rule.specs.Inner.Searches.{is_few, is_wanted, IsNextOpen, NoneLetIn}
 use Rattle.ics_rule.proofs.ChosenLemmas.{no_step, not_let_in, taken_out, taken_within}
-use Rattle.ics_rule.proofs.CountLemmas.{not_few}
+use Rattle.ics_rule.proofs.CountLemmas.{are_few, chosen_before, not_few}
 use Rattle.ics_period.proofs.Counts.{count-none, count-suc}
+use Rattle.ics_period.proofs.Tests.{keep_true}
 use Rattle.ics_rule.proofs.CursorLemmas.{within_facts, within_here}
 use Rattle.ics_period.proofs.PeriodLemmas.{before_first, begun, period_mono}
 
@@ -27,11 +27,11 @@ joined q start b first second n l u = elim (cases_lt n b) [ inl early ↦ first 
 pub closed : (q : EffectiveRule) (start : ℕ) {from opens : ℕ} → NoneLetIn q from opens → NoneChosen q start from opens
 closed q start none n l u = not_let_in q start n (λ s. none n l u)
 
--- Nothing is chosen from a local on before the next step.
-pub off_step : (q : EffectiveRule) (start from before : ℕ) {step : ℕ} → IsLeastFrom (is_stepped (period_in q start) q.interval) (period_in q from) step
+-- Nothing is chosen from a local on before the next step that may be allowed.
+pub off_step : (q : EffectiveRule) (start from before : ℕ) {step : ℕ} → IsNextOpen q (period_in q start) (period_in q from) step
     → ((n : ℕ) → from ≤ n → n < before → period_in q n < step) → NoneChosen q start from before
 off_step q start from before next earlier n l u =
-    no_step q start n (next.least (period_in q n) (period_mono q.frequency (monday_zero q.week_start) from n l) (earlier n l u))
+    not_let_in q start n (next.none n (period_mono q.frequency (monday_zero q.week_start) from n l) (earlier n l u))
 
 -- By the period held.
 module _ {q : EffectiveRule} (start : ℕ) {p : RecurrencePeriod} (own : IsPeriodOf q p) where
@@ -88,8 +88,8 @@ module _ (f g : ℕ → Bool) (a : ℕ) (is : (m : ℕ) → g m ≡ true → (a 
 -- Under COUNT: all that is kept is earlier than the place.
 pub counted_past : {q : EffectiveRule} {start c counted limit : ℕ} {p : RecurrencePeriod} (place : ℕ) → IsPeriodOf q p
     → IsCounted q start c counted limit p → p.number ≤ period_in q place
-    → limit ≤ counted + count place (is_taken q.positions (lists_none_wide q.positions) p) → NoneWanted q start (Some c) place rules_end
-counted_past {q = q} {start = start} {c = c} {counted = counted} {limit = limit} {p = p} place own is late out n l u =
+    → limit ≤ counted + count place (is_taken q.positions (lists_none_wide q.positions) p) → (n : ℕ) → place ≤ n → is_wanted q start (Some c) n ≡ false
+counted_past {q = q} {start = start} {c = c} {counted = counted} {limit = limit} {p = p} place own is late out n l =
     let first = first_local q.frequency (monday_zero q.week_start) p.number in
     let low = begun q.frequency (monday_zero q.week_start) p.number place late in
     let all = both_counted (is_chosen q start) (is_taken q.positions (lists_none_wide q.positions) p) first within (place - first) in
@@ -102,3 +102,13 @@ counted_past {q = q} {start = start} {c = c} {counted = counted} {limit = limit}
     within m t =
         let at = within_facts q start p.number m (sym (taken_within start own refl is.step m) ∙ t) in
         (begun q.frequency (monday_zero q.week_start) p.number m (omega (arith, at.0)), at.1)
+
+-- and within the period held, a local is kept that has fewer chosen before it than the limit
+pub counted_here : {q : EffectiveRule} {start c counted limit : ℕ} {p : RecurrencePeriod} (n : ℕ) → IsPeriodOf q p → IsCounted q start c counted limit p
+    → p.number ≡ period_in q n → counted + count n (is_taken q.positions (lists_none_wide q.positions) p) < limit
+    → is_wanted q start (Some c) n ≡ is_chosen q start n
+counted_here {q = q} {start = start} {c = c} {limit = limit} {p = p} n own is here less =
+    let low = begun q.frequency (monday_zero q.week_start) p.number n (omega (arith, here)) in
+    let all = chosen_before q start p own is.step n low (λ m u later. absurd (
+    let up = period_mono q.frequency (monday_zero q.week_start) m n (omega (arith, u)) in omega (arith, up, later, here))) in
+    ap (λ b. is_chosen q start n && b) (are_few q start c limit is.most n (omega (arith, all, less, is.total))) ∙ keep_true (is_chosen q start n)

@@ -85,7 +85,7 @@ impl Cursor {
     }
 
     /// The next local from the place on that the rule has, but for UNTIL. It is searched for in the periods up to that of the last before `stop`.
-    fn walk(&mut self, rule: &Rule, start: u64, stop: u64) -> Option<u64>
+    fn search(&mut self, rule: &Rule, start: u64, stop: u64) -> Option<u64>
         requires start { start ≡ number rule.now.start }
         requires after { start < self.old.place }
         requires place { self.old.place < stop }
@@ -99,10 +99,7 @@ impl Cursor {
             start,
             first: period_of(&rule.whole, start),
         };
-        match rule.given.count {
-            None => self.walk_freely(&search, stop),
-            Some(count) => self.walk_counting(&search, count, stop),
-        }
+        self.walk(&search, rule.given.count, stop)
     }
 
     /// The number of the next local that the rule keeps, from the place on and earlier than `end`.
@@ -135,7 +132,7 @@ impl Cursor {
             self.place = place.max(end);
             return None;
         }
-        if let Some(n) = self.walk(rule, start, stop) {
+        if let Some(n) = self.search(rule, start, stop) {
             if n < stop {
                 self.place = n + 1;
                 return Some(n);
@@ -205,7 +202,7 @@ impl Cursor {
             start,
             first: period_of(&rule.whole, start),
         };
-        if self.is_counted_out(search.parts, rule.given.count) {
+        if self.is_counted_out(search.parts, rule.given.count, self.place) {
             return RULES_END;
         }
         if chooses_none(search.parts) {

@@ -11,7 +11,7 @@ ghost use Rattle.ics_fields.specs.Locals.{calendar_end};
 use crate::pass::{next_allowed, next_open_second};
 use crate::rounds::seconds_of;
 use crate::search::Search;
-use ics_fields::{BitSet, Frequency, Ordinals, WideBitSet};
+use ics_fields::{BitSet, Frequency, Ordinals, WideBitSet, WideOrdinals};
 use ics_period::{EffectiveRule, PlacesPart, clock_set, lets_date, members_below};
 
 /// How many values of one unit of the clock a part allows.
@@ -48,7 +48,7 @@ fn open_weekdays(parts: &EffectiveRule) -> u64
     total
 }
 
-/// A rule of seconds without BYMONTH, BYMONTHDAY and BYWEEKNO. Under SECONDLY a weekday with a number means the weekday.
+/// A rule of seconds with BYDAY as the only part for dates. Under SECONDLY a weekday with a number means the weekday.
 fn of_weekdays(parts: &EffectiveRule) -> EffectiveRule
     ensures { result ≡ of_weekdays parts.now }
 {
@@ -56,21 +56,18 @@ fn of_weekdays(parts: &EffectiveRule) -> EffectiveRule
     rule.frequency = Frequency::Secondly;
     rule.months = BitSet::new();
     rule.month_days = Ordinals::new();
+    rule.year_days = PlacesPart::new(WideOrdinals::new());
     rule.weeks = Ordinals::new();
     rule
 }
 
-/// How many of a number of days, which so many weeks have, the weekdays of a rule without BYYEARDAY allow at most.
+/// How many of a number of days, which so many weeks have, the weekdays of a rule allow at most.
 fn on_weekdays(parts: &EffectiveRule, weeks: u64, days: u64) -> u64
     requires { weeks ≤ 53 }
     ensures value { result ≡ on_weekdays parts.now weeks days }
     ensures bound { result ≤ days }
 {
-    if parts.year_days.is_empty() {
-        days.min(weeks * open_weekdays(&of_weekdays(parts)))
-    } else {
-        days
-    }
+    days.min(weeks * open_weekdays(&of_weekdays(parts)))
 }
 
 /// How many days of a month BYMONTHDAY lists at most.
@@ -218,7 +215,7 @@ fn is_closed(parts: &EffectiveRule, by_week: bool, unit: u64, divisor: u64, rest
 }
 
 /// Whether no step has an hour, minute and second that are allowed, on a weekday that is. That is known as far as a common divisor tells of the
-/// interval and of the periods of a day or, if there is BYDAY and no BYYEARDAY, of a week: by it all steps leave the same rest.
+/// interval and of the periods of a day or, if there is BYDAY, of a week: by it all steps leave the same rest.
 pub(crate) fn has_no_time(search: &Search<'_>) -> bool
     ensures { result ≡ true → (n : ℕ) → n < calendar_end → is_chosen search.now.parts.now search.now.start n ≡ false }
 {
@@ -227,7 +224,7 @@ pub(crate) fn has_no_time(search: &Search<'_>) -> bool
     if unit == 0 || unit > 86_400 {
         return false;
     }
-    let by_week = !parts.weekdays.is_empty() & parts.year_days.is_empty();
+    let by_week = !parts.weekdays.is_empty();
     let periods = cycle(by_week) / unit;
     let interval = parts.interval as u64;
     let divisor = common_divisor(interval, periods);

@@ -7,12 +7,14 @@ ghost use Rattle.ics_period.specs.NearDays.{AreNear};
 ghost use Rattle.ics_fields.specs.Days.{days_before_year};
 ghost use Rattle.ics_fields.specs.Locals.{calendar_end};
 
+use crate::cursor::RULES_END;
+use crate::never::times_of_day;
 use crate::search::Search;
 use crate::walk::next_step;
 use ics_fields::Frequency;
 use ics_period::{
     EffectiveRule, NearDays, RecurrencePeriod, civil_at, clock_set, first_local, lets, lets_date,
-    lists_days, month_length, next_second, period_of, skips_hours,
+    lists_days, month_length, next_second, period_of, skips_hours, steps_out,
 };
 
 /// How many days from one on are in a month that BYMONTH does not allow.
@@ -222,4 +224,47 @@ pub(crate) fn next_open_step(
     let by_days = !matches!(parts.frequency, Frequency::Monthly);
     let place = next_open(parts, begin, stop, by_days);
     next_step(search.first, parts.interval, period_of(parts, place))
+}
+
+/// Up to so many times of a day, steps of seconds are found by them.
+const FEW_TIMES: u64 = 256;
+
+/// After each so many looks in vain, a step is found by the times of a day. That costs as much as some of these looks.
+const SOME_LOOKS: u64 = 16;
+
+/// The first step from one on whose time a rule allows, if its periods are seconds and it allows few times of a day. Else that one.
+pub(crate) fn next_timed_step(search: &Search<'_>, step: u64) -> u64
+    requires { is_stepped search.now.first search.now.parts.now.interval step ≡ true }
+    ensures { IsNextOpen search.now.parts.now search.now.first step result }
+{
+    let parts = search.parts;
+    if step >= RULES_END || !matches!(parts.frequency, Frequency::Secondly) {
+        return step;
+    }
+    if times_of_day(parts) > FEW_TIMES {
+        return step;
+    }
+    step + steps_out(parts, step) * parts.interval as u64
+}
+
+/// The same. After each so many looks in vain, steps are passed over whose time is not allowed.
+pub(crate) fn next_step_after(
+    search: &Search<'_>,
+    period: &RecurrencePeriod,
+    last: u64,
+    stop: u64,
+    looks: u64,
+) -> u64
+    requires step { is_stepped search.now.first search.now.parts.now.interval period.now.number ≡ true }
+    requires small { period.now.number < 2 ^ 40 }
+    requires last { last ≡ period_in search.now.parts.now (stop - 1) }
+    requires some { 0 < stop }
+    requires stop { stop ≤ rules_end }
+    ensures { IsNextOpen search.now.parts.now search.now.first (period.now.number + search.now.parts.now.interval) result }
+{
+    let next = next_open_step(search, period, last, stop);
+    if looks % SOME_LOOKS > 0 {
+        return next;
+    }
+    next_timed_step(search, next)
 }

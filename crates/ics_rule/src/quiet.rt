@@ -1,32 +1,50 @@
 //! How far a rule is known to keep nothing, without a look at another period.
-ghost use Rattle.std.specs.Prelude.{◌≡◌, ℕ, ◌<◌, ◌≤◌, true, Some};
+ghost use Rattle.std.specs.Prelude.{◌≡◌, ◌<◌, ◌≤◌, ◌^◌, true};
 ghost use Rattle.ics_fields.specs.Locals.{calendar_end};
-ghost use Rattle.ics_rule.specs.Cursors.{HeldBy, IsCursorIn};
+ghost use Rattle.ics_rule.specs.Cursors.{HeldBy};
 ghost use Rattle.ics_rule.specs.Inner.Quiet.{NoneChosen};
-ghost use Rattle.ics_rule.specs.Inner.Searches.{NoneWanted};
+ghost use Rattle.ics_rule.specs.Inner.Searches.{IsNextOpen};
 ghost use Rattle.ics_period.specs.PeriodNumbers.{rules_end};
 
 use crate::cursor::{Cursor, RULES_END};
 use crate::filled::next_filled;
 use crate::never::has_no_time;
-use crate::pass::next_allowed;
+use crate::pass::{next_allowed, next_timed_step};
 use crate::rounds::seconds_of;
 use crate::search::Search;
 use crate::walk::next_step;
-use ics_period::{EffectiveRule, first_local, period_of};
+use ics_period::{first_local, period_of};
 
 /// After so many steps that allow nothing a question ends, and it is asked whether a step ever does. To pass over them costs a few times what it
 /// costs to ask anew on a later day.
 const MANY_STEPS: u32 = 64;
 
-/// The first local of the step that a local is in or, if it is in none, of the next. The end of the rules if that is later.
-fn begin_of_step(search: &Search<'_>, n: u64) -> u64
+/// After each so many steps that allow nothing, one is found by the times of a day.
+const SOME_STEPS: u32 = 8;
+
+/// The first step from a period's number on. With `by_times`, the first whose time is allowed, where that is known.
+#[inline]
+fn step_from(search: &Search<'_>, own: u64, by_times: bool) -> u64
+    requires { own < 2 ^ 40 }
+    ensures { IsNextOpen search.now.parts.now search.now.first own result }
+{
+    let step = next_step(search.first, search.parts.interval, own);
+    if by_times {
+        next_timed_step(search, step)
+    } else {
+        step
+    }
+}
+
+/// The first local of the first step, from the period of a local on. With `by_times`, that of the first whose time is allowed, where that is known.
+/// The end of the rules if that is later.
+fn begin_of_step(search: &Search<'_>, n: u64, by_times: bool) -> u64
     requires { n < calendar_end }
     ensures none { NoneChosen search.now.parts.now search.now.start n result }
     ensures inside { result ≤ rules_end }
 {
     let parts = search.parts;
-    let step = next_step(search.first, parts.interval, period_of(parts, n));
+    let step = step_from(search, period_of(parts, n), by_times);
     if step > period_of(parts, RULES_END) {
         return RULES_END;
     }
@@ -41,12 +59,12 @@ fn next_by_date(search: &Search<'_>, from: u64) -> u64
     ensures inside { result < calendar_end }
 {
     let mut at = from;
-    for _ in 0..MANY_STEPS {
+    for steps in 0..MANY_STEPS {
         if at >= RULES_END {
             return at;
         }
         let open = next_allowed(search.parts, at, RULES_END);
-        let begin = begin_of_step(search, open);
+        let begin = begin_of_step(search, open, steps % SOME_STEPS == SOME_STEPS - 1);
         if begin <= open {
             return open;
         }
@@ -78,24 +96,6 @@ fn next_by_parts(search: &Search<'_>, from: u64) -> u64
 }
 
 impl Cursor {
-    /// Whether COUNT keeps none from the place on, as far as the period held tells.
-    pub(crate) fn is_counted_out(&self, parts: &EffectiveRule, count: Option<u32>) -> bool
-        requires inside { self.now.place < calendar_end }
-        requires held { HeldBy parts.now self.now.held self.now.place }
-        ensures { result ≡ true → (start : ℕ) → IsCursorIn parts.now start count self.now → NoneWanted parts.now start count self.now.place rules_end }
-    {
-        let Some(_) = count else {
-            return false;
-        };
-        match &self.held {
-            None => false,
-            Some(period) => {
-                let before = period.taken_before(&parts.positions, self.place);
-                self.limit <= self.counted.saturating_add(before)
-            }
-        }
-    }
-
     /// The first of the period of the place that is chosen from there on, if that period is held. Else, or if there is none, a local before
     /// which none is chosen from the place on, by the parts of the date alone.
     pub(crate) fn next_possible(&self, search: &Search<'_>) -> u64

@@ -1,21 +1,24 @@
-//! Searching the periods of a rule without COUNT.
-ghost use Rattle.std.specs.Prelude.{◌≡◌, ℕ, true, false, ◌<◌, ◌≤◌, ◌+◌, ◌*◌, ◌/◌, ◌^◌, MatchOption, Some, None};
+//! Searching the periods of a rule.
+ghost use Rattle.std.specs.Prelude.{◌≡◌, ℕ, true, false, ◌<◌, ◌≤◌, ◌^◌, MatchOption};
 ghost use Rattle.jiff_core.specs.Weekday.{monday_zero};
 ghost use Rattle.ics_fields.specs.Sets.{IsLeastFrom};
 ghost use Rattle.ics_period.specs.Candidates.{is_stepped, period_in};
-ghost use Rattle.ics_period.specs.RecurrencePeriods.{first_local, IsPeriodOf};
+ghost use Rattle.ics_period.specs.RecurrencePeriods.{first_local};
 ghost use Rattle.ics_rule.specs.Cursors.{IsCursorIn};
-ghost use Rattle.ics_rule.specs.Inner.Searches.{IsNextWanted, IsWalked, LooksAt};
+ghost use Rattle.ics_rule.specs.Inner.Searches.{IsNextWanted, IsWalk, IsWalked, LooksAt, IsTurnOf, IsTurned, IsOut};
 ghost use Rattle.ics_period.specs.PeriodNumbers.{rules_end};
 ghost use Rattle.ics_period.specs.Ranks.{is_chosen};
 ghost use Rattle.ics_fields.specs.Locals.{calendar_end};
 
 use crate::cursor::Cursor;
 use crate::never::{chooses_none, has_no_time};
-use crate::pass::next_open_step;
+use crate::pass::next_step_after;
 use crate::rounds::last_to_look_at;
 use crate::search::Search;
-use ics_period::{EffectiveRule, period_of};
+use ics_period::period_of;
+
+/// 10000-01-01T00:00:00, the end of the calendar.
+const CALENDAR_END: u64 = 315_569_520_000;
 
 /// The least number from `own` on that is `first` or later by a multiple of the interval.
 pub(crate) fn next_step(first: u64, interval: u32, own: u64) -> u64
@@ -43,30 +46,77 @@ pub(crate) fn is_vain(search: &Search<'_>, looks: u64) -> bool
 }
 
 impl Cursor {
-    /// Turns to the period with a number. Looks at it unless it is the one held.
-    fn turn_freely(&mut self, parts: &EffectiveRule, number: u64)
-        requires low { period_in parts.now 0 ≤ number }
-        requires reach { first_local parts.now.frequency (monday_zero parts.now.week_start) number ≤ rules_end }
-        requires held { MatchOption self.old.held (Unit {0}) (λ p. IsPeriodOf parts.now p × (p.number ≤ number)) }
+    /// Turns to the period with a number, and looks at it unless it is the one held. False, and nothing changes, if all that COUNT keeps
+    /// is earlier.
+    pub(crate) fn turn_to(&mut self, search: &Search<'_>, count: Option<u32>, number: u64) -> bool
+        requires count { MatchOption count (Unit {0}) (λ c. 1 ≤ c) }
+        requires start { search.now.start < rules_end }
+        requires step { is_stepped (period_in search.now.parts.now search.now.start) search.now.parts.now.interval number ≡ true }
+        requires reach { first_local search.now.parts.now.frequency (monday_zero search.now.parts.now.week_start) number ≤ rules_end }
         requires room { self.old.steps < 2 ^ 63 }
-        ensures held { MatchOption self.new.held ⊥ (λ p. IsPeriodOf parts.now p × (p.number ≡ number)) }
+        requires turn { IsTurnOf search.now.parts.now search.now.start count number self.old }
         ensures looks { LooksAt number self.old self.new }
+        ensures turned { result ≡ true → MatchOption self.new.held ⊥ (IsTurned search.now.parts.now search.now.start count number self.new) }
+        ensures out { result ≡ false → IsOut search.now.parts.now search.now.start count number self.old self.new }
     {
-        if let Some(period) = &self.held {
-            if period.number() == number {
-                return;
-            }
+        let parts = search.parts;
+        let Some(period) = &self.held else {
+            self.look_at(parts, number, 0);
+            let Some(count) = count else {
+                return true;
+            };
+            let Some(period) = &self.held else {
+                return false;
+            };
+            let through = period.taken_before(&parts.positions, search.start + 1);
+            self.limit = count as u64 - 1 + through;
+            return true;
+        };
+        if period.number() == number {
+            return true;
         }
-        self.look_at(parts, number, 0);
+        let Some(_) = count else {
+            self.look_at(parts, number, 0);
+            return true;
+        };
+        let counted = self.counted + period.taken_before(&parts.positions, CALENDAR_END - 1);
+        if counted >= self.limit {
+            return false;
+        }
+        self.look_at(parts, number, counted);
+        true
     }
 
-    /// The next local from the place on that the rule chooses. It is searched for in the periods up to that of the last before `stop`.
-    pub(crate) fn walk_freely(&mut self, search: &Search<'_>, stop: u64) -> Option<u64>
+    /// The period that a walk begins with: the first step from the place on. Under COUNT it is that of the start or the one held, once what is
+    /// chosen before the place is counted by whole rounds or days.
+    fn first_step(&mut self, search: &Search<'_>, count: Option<u32>, own: u64) -> u64
+        requires count { MatchOption count (Unit {0}) (λ c. 1 ≤ c) }
+        requires after { search.now.start < self.old.place }
+        requires early { self.old.place < rules_end }
+        requires period { own ≡ period_in search.now.parts.now self.old.place }
+        requires small { own < 2 ^ 40 }
+        requires cursor { IsCursorIn search.now.parts.now search.now.start count self.old }
+        ensures { (stop : ℕ) → self.old.place < stop → IsWalk search.now.parts.now search.now.start count stop result self.old self.new }
+    {
+        match count {
+            None => next_step(search.first, search.parts.interval, own),
+            Some(count) => {
+                self.pass_periods(search, count);
+                self.counted_from(search.first).0
+            }
+        }
+    }
+
+    /// The next local from the place on that the rule chooses and COUNT keeps. It is searched for in the periods up to that of the last
+    /// local before `stop`.
+    pub(crate) fn walk(&mut self, search: &Search<'_>, count: Option<u32>, stop: u64) -> Option<u64>
+        requires count { MatchOption count (Unit {0}) (λ c. 1 ≤ c) }
+        requires after { search.now.start < self.old.place }
         requires place { self.old.place < stop }
         requires stop { stop ≤ rules_end }
-        requires own { IsCursorIn search.now.parts.now search.now.start None self.old }
-        ensures next { IsNextWanted search.now.parts.now search.now.start None self.old.place stop result }
-        ensures walked { IsWalked search.now.parts.now search.now.start None stop result self.old self.new }
+        requires own { IsCursorIn search.now.parts.now search.now.start count self.old }
+        ensures next { IsNextWanted search.now.parts.now search.now.start count self.old.place stop result }
+        ensures walked { IsWalked search.now.parts.now search.now.start count stop result self.old self.new }
     {
         let parts = search.parts;
         if chooses_none(parts) {
@@ -74,22 +124,25 @@ impl Cursor {
         }
         let own = period_of(parts, self.place);
         let last = period_of(parts, stop - 1);
-        let end = last_to_look_at(search, search.first.max(own), last);
-        let mut number = next_step(search.first, parts.interval, own);
+        let end = last_to_look_at(search, own, last);
+        let mut number = self.first_step(search, count, own);
         let mut looks: u64 = 0;
         while number <= end {
-            self.turn_freely(parts, number);
+            if !self.turn_to(search, count, number) {
+                return None;
+            }
             let Some(period) = &self.held else {
                 return None;
             };
             if let Some(n) = period.next_taken(&parts.positions, self.place) {
-                return Some(n);
+                let out = self.is_counted_out(parts, count, n);
+                return if out { None } else { Some(n) };
             }
             looks = looks.saturating_add(1);
             if is_vain(search, looks) {
                 return None;
             }
-            number = next_open_step(search, period, last, stop);
+            number = next_step_after(search, period, last, stop, looks);
         }
         None
     }

@@ -5,7 +5,7 @@ use Rattle.ics_fields.specs.declared.frequency.Frequency.TheVariants.{Secondly, 
 use Rattle.ics_fields.specs.declared.ordinals.Ordinals.{Ordinals}
 use Rattle.ics_fields.specs.declared.ordinals.WideOrdinals.{WideOrdinals}
 use Rattle.ics_fields.specs.Sets.{contains, contains_wide}
-use Rattle.ics_fields.specs.Ordinals.{no_ordinals, lists_none, lists_none_wide}
+use Rattle.ics_fields.specs.Ordinals.{no_ordinals, no_wide_ordinals, lists_none, lists_none_wide}
 use Rattle.ics_period.specs.declared.effective_rule.EffectiveRule.{EffectiveRule}
 use Rattle.ics_period.specs.PeriodNumbers.{day_of, hour_of, minute_of, second_of}
 use Rattle.ics_period.specs.EffectiveRules.{skips_hours, skips_minutes, skips_seconds}
@@ -65,13 +65,13 @@ listed_in_month p = if lists_none p then 31 else count 32 (contains p.front) + c
 abbrev pub listed_in_year : WideOrdinals → ℕ
 listed_in_year p = if lists_none_wide p then 366 else count 367 (contains_wide p.front) + count 367 (contains_wide p.back)
 
--- a rule of seconds without the parts for months, days of a month and weeks. Under SECONDLY a weekday with a number means the weekday
+-- a rule of seconds with BYDAY as the only part for dates. Under SECONDLY a weekday with a number means the weekday
 abbrev pub of_weekdays : EffectiveRule → EffectiveRule
-of_weekdays q = record q { frequency = Secondly; months = 0; month_days = no_ordinals; weeks = no_ordinals }
+of_weekdays q = record q { frequency = Secondly; months = 0; month_days = no_ordinals; year_days = no_wide_ordinals; weeks = no_ordinals }
 
--- how many of a number of days, which so many weeks have, the weekdays of a rule without BYYEARDAY allow at most
+-- how many of a number of days, which so many weeks have, the weekdays of a rule allow at most
 abbrev pub on_weekdays : EffectiveRule → ℕ → ℕ → ℕ
-on_weekdays q weeks days = if lists_none_wide q.year_days then min days (weeks * count 7 (lets_date (of_weekdays q))) else days
+on_weekdays q weeks days = min days (weeks * count 7 (lets_date (of_weekdays q)))
 
 -- a number of days that the rule allows at most in one period, if it is longer than a day
 abbrev pub most_days : Frequency → EffectiveRule → ℕ

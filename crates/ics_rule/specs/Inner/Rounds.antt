@@ -95,7 +95,7 @@ pub record IsPassedTo (q : EffectiveRule) (start c : ℕ) (before now : Cursor) 
 -- the period with a number is turned to, and what is chosen before it is counted
 pub record HasCountedTo (q : EffectiveRule) (start c number : ℕ) (before now : Cursor) : Type 0 where
   pub period : RecurrencePeriod
-  pub turned : IsTurned q start c number now period
+  pub turned : IsTurned q start (Some c) number now period
   pub walked : IsWalked q start (Some c) (before.place + 1) None before now
 
 -- the period that a cursor counts on from, and how many locals are chosen before it: that of the period held, or the first

@@ -9,7 +9,7 @@ use Rattle.ics_period.specs.PeriodNumbers.{day_of, rules_end}
 use Rattle.ics_period.specs.Candidates.{is_stepped, lets_date, lets_clock, period_in}
 use Rattle.ics_period.specs.Ranks.{count, is_chosen}
 use Rattle.ics_period.specs.RecurrencePeriods.{first_local, IsPeriodOf}
-use Rattle.ics_rule.specs.Cursors.{is_met, fresh, HasBegun, HeldBy, CountedBy, HasLookedIn, IsCounted, IsCursorIn}
+use Rattle.ics_rule.specs.Cursors.{is_met, fresh, HasBegun, HeldBy, CountedBy, looks_from, HasLookedIn, IsCounted, IsCursorIn}
 
 -- the rule allows no local from one on and before another
 abbrev pub NoneLetIn : EffectiveRule → ℕ → ℕ → Type 0
@@ -87,23 +87,37 @@ pub record IsPassed (q : EffectiveRule) (start from before : ℕ) : Type 0 where
   pub up : from ≤ before
   pub none : (n : ℕ) → from ≤ period_in q n → period_in q n < before → is_chosen q start n ≡ false
 
--- under COUNT: the period held is the one with a number, or an earlier one from whose next step on nothing is chosen before that; or none is
--- held, and the number is that of the start's period
-abbrev pub IsTurnOf : EffectiveRule → ℕ → ℕ → ℕ → Cursor → Type 0
-IsTurnOf q start c number cursor =
-    MatchOption cursor.held (number ≡ period_in q start)
-    (λ p. IsPeriodOf q p × (IsCounted q start c cursor.counted cursor.limit p × ((p.number ≡ number) ⊎ IsPassed q start (p.number + q.interval) number)))
-
--- COUNT keeps no local from the period with a number on
-abbrev pub AllCounted : EffectiveRule → ℕ → ℕ → ℕ → Type 0
-AllCounted q start c number = (n : ℕ) → first_local q.frequency (monday_zero q.week_start) number ≤ n → is_few q start c n ≡ false
+-- a cursor may turn to the period with a number: it holds none or one that is no later. Under COUNT that is this one, or one from whose next step
+-- on nothing is chosen before this one; if none is held, this one is the start's
+pub record IsTurnOf (q : EffectiveRule) (start : ℕ) (o : Option ℕ) (number : ℕ) (cursor : Cursor) : Type 0 where
+  pub held : MatchOption cursor.held (Unit {0}) (λ p. IsPeriodOf q p × (p.number ≤ number))
+  pub counted : CountedBy q start o cursor
+  pub passed : MatchOption o (Unit {0}) (λ c. MatchOption cursor.held (number ≡ period_in q start)
+      (λ p. (p.number ≡ number) ⊎ IsPassed q start (p.number + q.interval) number))
 
 -- the period with a number is held
-pub record IsTurned (q : EffectiveRule) (start c turn : ℕ) (cursor : Cursor) (p : RecurrencePeriod) : Type 0 where
+pub record IsTurned (q : EffectiveRule) (start : ℕ) (o : Option ℕ) (turn : ℕ) (cursor : Cursor) (p : RecurrencePeriod) : Type 0 where
   pub held : cursor.held ≡ Some p
   pub product : IsPeriodOf q p
   pub number : p.number ≡ turn
-  pub counted : IsCounted q start c cursor.counted cursor.limit p
+  pub counted : MatchOption o (Unit {0}) (λ c. IsCounted q start c cursor.counted cursor.limit p)
+
+-- how far a walk over the periods has come: nothing from the place on is chosen in a period before this one, to which the cursor may turn
+pub record IsWalk (q : EffectiveRule) (start : ℕ) (o : Option ℕ) (stop number : ℕ) (before now : Cursor) : Type 0 where
+  pub some : 1 ≤ q.interval
+  pub late : looks_from o start before.place ≤ before.place
+  pub early : before.place < stop
+  pub step : is_stepped (period_in q start) q.interval number ≡ true
+  pub low : period_in q (looks_from o start before.place) ≤ number
+  pub none : (n : ℕ) → before.place ≤ n → period_in q n < number → is_chosen q start n ≡ false
+  pub held : HeldBy q now.held stop
+  pub turn : IsTurnOf q start o number now
+  pub moved : HasMoved q start o stop before now
+
+-- a cursor stays as it was, since COUNT keeps nothing from the period with a number on
+pub record IsOut (q : EffectiveRule) (start : ℕ) (o : Option ℕ) (number : ℕ) (before now : Cursor) : Type 0 where
+  pub same : now ≡ before
+  pub none : (n : ℕ) → first_local q.frequency (monday_zero q.week_start) number ≤ n → is_wanted q start o n ≡ false
 
 -- a cursor after a look at a period
 abbrev pub after_look : Cursor → RecurrencePeriod → ℕ → Cursor

@@ -1,4 +1,4 @@
-use Rattle.ics_rule.proofs.PassLemmas.{second_next, second_none}
+use Rattle.ics_period.proofs.ClockLemmas.{second_next, second_none}
 use Rattle.ics_rule.proofs.pass.next_open_second.Goals as goal
 
 pub returns-in-Some-clause-none : goal.returns-in-Some-clause-none

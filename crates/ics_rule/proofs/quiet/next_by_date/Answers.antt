@@ -7,16 +7,16 @@ use Rattle.ics_rule.proofs.quiet.next_by_date.Goals.{After-next_allowed-open}
 -- nothing is chosen before the first that may be allowed
 opened : (c : After-next_allowed-open)
     → NoneChosen c.args.search.now.parts.now c.args.search.now.start c.args.from c.next_allowed-open.result
-opened c = joined c.args.search.now.parts.now c.args.search.now.start c.loop.at c.loop.invariant.none
+opened c = joined c.args.search.now.parts.now c.args.search.now.start c.loop-steps.at c.loop-steps.invariant.none
     (closed c.args.search.now.parts.now c.args.search.now.start c.next_allowed-open.ensures.none)
 
 pub returns-then-begin-open-clause-none : goal.returns-then-begin-open-clause-none
 returns-then-begin-open-clause-none c = opened (goal.at.returns-then-begin-open-clause-none c).After-next_allowed-open
 
-pub loop-preserved : goal.loop-preserved
-loop-preserved c = record {
+pub loop-steps-preserved : goal.loop-steps-preserved
+loop-steps-preserved c = record {
   none = joined c.args.search.now.parts.now c.args.search.now.start c.next_allowed-open.result
-      (opened (goal.at.loop-preserved c).After-next_allowed-open) c.begin_of_step-begin.ensures.none;
+      (opened (goal.at.loop-steps-preserved c).After-next_allowed-open) c.begin_of_step-begin.ensures.none;
   inside = omega (arith, c.begin_of_step-begin.ensures.inside);
 }
 

@@ -1,12 +1,20 @@
 use Rattle.std.proofs.Common.{arith}
-use Rattle.std.proofs.lemmas.Bool.{leb-true}
-use Rattle.ics_rule.proofs.QuietLemmas.{counted_past}
+use Rattle.std.proofs.lemmas.Bool.{leb-false, leb-true}
+use Rattle.ics_rule.proofs.QuietLemmas.{counted_here, counted_past}
 use Rattle.ics_rule.proofs.cursor.Cursor.is_counted_out.Goals as goal
 
-pub returns-in-Some-held : goal.returns-in-Some-held
-returns-in-Some-held c = λ out start own.
-    let period = rw c.in-Some-held.is at own.held in
-    let counted = rw (c.in-Some.is, c.in-Some-held.is) at own.counted in
+pub returns-in-Some-held-clause-out : goal.returns-in-Some-held-clause-out
+returns-in-Some-held-clause-out c = λ out start own.
+    let period = rw c.in-Some-held.is at c.requires.held in
+    let counted = rw (c.in-Some.is, c.in-Some-held.is) at own in
     let most = leb-true c.args.self.now.limit c.saturating_add.result out in
-    rw c.in-Some.is (counted_past c.args.self.now.place period.0 counted period.1
+    rw c.in-Some.is (counted_past c.args.n period.0 counted period.1
     (omega (arith, most, c.saturating_add.ensures, c.taken_before-before.ensures.value)))
+
+pub returns-in-Some-held-clause-kept : goal.returns-in-Some-held-clause-kept
+returns-in-Some-held-clause-kept c = λ few start own here.
+    let period = rw c.in-Some-held.is at c.requires.held in
+    let counted = rw (c.in-Some.is, c.in-Some-held.is) at own in
+    let less = leb-false c.args.self.now.limit c.saturating_add.result few in
+    rw c.in-Some.is (counted_here c.args.n period.0 counted (rw c.in-Some-held.is at here)
+    (omega (arith, less, c.saturating_add.ensures, c.taken_before-before.ensures.value)))

@@ -71,20 +71,20 @@ returns-then-n-stop-clause-rise c = let looks = c.in-Some.ensures.walked.moved.l
 pub returns-clause-next : goal.returns-clause-next
 returns-clause-next c =
     let at = (goal.at.returns-clause-next c).After-min-stop in
-    let past : MatchOption c.walk.result (Unit {0}) (λ n. c.min-stop.result ≤ n) = grind arith in
+    let past : MatchOption c.search.result (Unit {0}) (λ n. c.min-stop.result ≤ n) = grind arith in
     let end : c.args.end ≡ max c.args.self.now.place c.args.end = omega (arith, c.min-stop.ensures, c.if-stop-place.false) in (
       kept_answer c.args.rule.now c.args.self.now.place c.args.end c.until_end.result (after at) c.requires.end (ends at)
-          c.walk.result (rw (c.requires.start, c.min-stop.ensures) at c.walk.ensures.next) (rw c.min-stop.ensures at past),
+          c.search.result (rw (c.requires.start, c.min-stop.ensures) at c.search.ensures.next) (rw c.min-stop.ensures at past),
       end,
     )
 
 pub returns-clause-own : goal.returns-clause-own
-returns-clause-own c = let walked = c.walk.ensures.walked in
+returns-clause-own c = let walked = c.search.ensures.walked in
     own_moved {n = c.min-stop.result} c.args.end walked.moved walked.held (omega (arith, c.min-stop.ensures)) walked.counted (omega (arith, c.requires.end))
 
 pub returns-clause-looked : goal.returns-clause-looked
-returns-clause-looked c = λ a b h few. looked_walked c.args.end c.walk.ensures.walked
+returns-clause-looked c = λ a b h few. looked_walked c.args.end c.search.ensures.walked
     (omega (arith, c.if-stop-place.false, c.min-stop.ensures)) (omega (arith, c.min-stop.ensures, h)) few
 
 pub returns-clause-rise : goal.returns-clause-rise
-returns-clause-rise c = let looks = c.walk.ensures.walked.moved.looks in grind arith
+returns-clause-rise c = let looks = c.search.ensures.walked.moved.looks in grind arith

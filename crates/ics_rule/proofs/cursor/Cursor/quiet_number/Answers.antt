@@ -1,7 +1,7 @@
 use Rattle.std.proofs.Common.{◌≡◌, ℕ, ◌<◌, nat_lt, arith}
 use Rattle.ics_fields.specs.Locals.{number}
 use Rattle.ics_period.specs.PeriodNumbers.{rules_end}
-use Rattle.ics_rule.specs.Cursors.{IsCursorIn}
+use Rattle.ics_rule.specs.Cursors.{CountedBy}
 use Rattle.ics_period.specs.EffectiveRules.{effective}
 use Rattle.ics_rule.specs.Kept.{is_by_until}
 use Rattle.ics_rule.proofs.CursorLemmas.{not_wanted}
@@ -28,10 +28,10 @@ returns-then-stop-self-clause-none c =
 pub returns-then-is_counted_out-clause-none : goal.returns-then-is_counted_out-clause-none
 returns-then-is_counted_out-clause-none c =
     let at = (goal.at.returns-then-is_counted_out-clause-none c).After-min-stop in
-    let own : IsCursorIn c.rule.inside.whole c.args.start c.rule.inside.given.count c.args.self.now = grind arith in
-    let none = c.is_counted_out.ensures c.if-is_counted_out.true c.args.start own in
+    let counted : CountedBy c.rule.inside.whole c.args.start c.rule.inside.given.count c.args.self.now = (let own = c.requires.own.counted in grind arith) in
+    let none = c.is_counted_out.ensures.out c.if-is_counted_out.true c.args.start counted in
     none_kept c.args.rule.now c.args.self.now.place rules_end c.until_end.result (after at) (omega arith) (ends at)
-    (λ n l u. let is = none n l (omega (arith, u)) in grind arith)
+    (λ n l u. let is = none n l in grind arith)
 
 pub returns-then-chooses_none-clause-none : goal.returns-then-chooses_none-clause-none
 returns-then-chooses_none-clause-none c =

@@ -1,67 +1,79 @@
-use Rattle.std.proofs.Common.{◌≡◌, ◌+◌, ◌-◌, ◌∙◌, inl, inr, ap, refl, arith}
+use Rattle.std.proofs.Common.{◌≡◌, ℕ, ◌+◌, ◌-◌, ◌∙◌, Some, inl, inr, ap, refl, arith}
 use Rattle.ics_rule.specs.Inner.Searches.{IsPassed}
-use Rattle.ics_rule.proofs.CursorLemmas.{looks_none, looks_once}
+use Rattle.ics_rule.proofs.CursorLemmas.{looks_once}
 use Rattle.ics_rule.proofs.CountLemmas.{IsLeft, step_low, turned_first, turned_on, counted_out, counted_small}
 use Rattle.ics_rule.proofs.cursor.Cursor.turn_to.Goals as goal
-use Rattle.ics_rule.proofs.cursor.Cursor.turn_to.Goals.{After-taken_before-before, In_ok-period-in-None}
+use Rattle.ics_rule.proofs.cursor.Cursor.turn_to.Goals.{After-taken_before, In-Some-held}
 
 pub look_at-requires-clause-low : goal.look_at-requires-clause-low
 look_at-requires-clause-low c = step_low c.args.search.now.parts.now c.args.search.now.start c.args.number c.requires.step
 
-pub look_at-requires-in-Some-clause-low : goal.look_at-requires-in-Some-clause-low
-look_at-requires-in-Some-clause-low c = step_low c.args.search.now.parts.now c.args.search.now.start c.args.number c.requires.step
+pub look_at-requires-in_default-count-2-clause-low : goal.look_at-requires-in_default-count-2-clause-low
+look_at-requires-in_default-count-2-clause-low c = step_low c.args.search.now.parts.now c.args.search.now.start c.args.number c.requires.step
 
--- the period held is left for a later one
-left : (c : After-taken_before-before) → IsLeft c.args.search.now.parts.now c.args.search.now.start c.args.count c.args.number c.taken_before-before.result
-    c.args.self.now.counted c.args.self.now.limit c.in-Some.period
-left c =
-    let turn = rw c.in-Some.is at c.requires.turn in record {
-      some = c.args.search.now.interval;
-      own = turn.0;
-      counted = turn.1.0;
-      passed = elim turn.1.1 [ inl same ↦ absurd (c.if-number.false (c.number.ensures ∙ same)) | inr on ↦ on ];
-      reach = omega (arith, c.requires.reach);
-      taken = c.taken_before-before.ensures.value;
-    }
+pub look_at-requires-2-clause-low : goal.look_at-requires-2-clause-low
+look_at-requires-2-clause-low c = step_low c.args.search.now.parts.now c.args.search.now.start c.args.number c.requires.step
 
-pub overflow_add-self-in-Some : goal.overflow_add-self-in-Some
-overflow_add-self-in-Some c =
-    let is = left c in
-    let small = counted_small c.args.number is.counted (let up = is.passed.up in omega (arith, up)) c.requires.step c.requires.reach in
-    omega (arith, small, c.taken_before-before.ensures.bound)
+pub returns-in_default-count-clause-looks : goal.returns-in_default-count-clause-looks
+returns-in_default-count-clause-looks c =
+    looks_once 0 c.args.self.now c.look_at.ensures.0 (grind arith) c.look_at.ensures.1.0 c.look_at.ensures.1.1.1
 
-pub returns-then-self-before-clause-turned : goal.returns-then-self-before-clause-turned
-returns-then-self-before-clause-turned c =
-    (counted_out (left (goal.at.returns-then-self-before-clause-turned c).After-taken_before-before) c.if-self-before.true, refl)
-
--- the period held is the one looked at
-first : (c : In_ok-period-in-None) → c.look_at.ensures.0 ≡ c.in_ok-period-in-None.period
-first c = let branch = rw c.look_at.ensures.1.0 at c.branch-period.ensures in let is = c.in_ok-period-in-None.is in grind (arith, branch, is)
-
-pub returns-in_ok-period-in-None-clause-turned : goal.returns-in_ok-period-in-None-clause-turned
-returns-in_ok-period-in-None-clause-turned c =
-    let turn = rw c.in-None.is at c.requires.turn in
-    let own = rw (first (goal.at.returns-in_ok-period-in-None-clause-turned c).In_ok-period-in-None) at c.look_at.ensures.1 in
-    rw own.0 (turned_first c.args.self.now c.requires.count turn c.requires.step own.1 (ap (λ x. c.args.count - 1 + x) c.taken_before-through.ensures.value))
-
-pub returns-in_ok-period-in-None-clause-looks : goal.returns-in_ok-period-in-None-clause-looks
-returns-in_ok-period-in-None-clause-looks c =
+pub returns-in_default-clause-looks : goal.returns-in_default-clause-looks
+returns-in_default-clause-looks c =
     let at = looks_once 0 c.args.self.now c.look_at.ensures.0 (grind arith) c.look_at.ensures.1.0 c.look_at.ensures.1.1.1 in
     record { place = at.place; looks = at.looks; begun = at.begun; steps = at.steps }
 
-pub returns-else-self-before-clause-turned : goal.returns-else-self-before-clause-turned
-returns-else-self-before-clause-turned c = rw c.look_at-in-Some.ensures.1.0 (turned_on c.args.self.now
-    (left (goal.at.returns-else-self-before-clause-turned c).After-taken_before-before) c.requires.step
-    c.look_at-in-Some.ensures.1.1.0 c.look_at-in-Some.ensures.1.1.1)
+-- the period held is the one looked at
+first : (c : In-Some-held) → c.look_at.ensures.0 ≡ c.in-Some-held.period
+first c = let held = rw c.look_at.ensures.1.0 at c.in-Some-held.is in grind arith
 
-pub returns-else-self-before-clause-looks : goal.returns-else-self-before-clause-looks
-returns-else-self-before-clause-looks c =
-    let up = IsPassed.up (IsLeft.passed (left (goal.at.returns-else-self-before-clause-looks c).After-taken_before-before)) in
-    looks_once (c.args.self.now.counted + c.taken_before-before.result) c.args.self.now c.look_at-in-Some.ensures.0 (grind arith) c.look_at-in-Some.ensures.1.0
-    c.look_at-in-Some.ensures.1.1.1
+pub returns-in_default-clause-turned : goal.returns-in_default-clause-turned
+returns-in_default-clause-turned c = λ yes.
+    let turn = rw (c.in_default.is, c.in-Some-count.is) at c.requires.turn.passed in
+    let some = rw c.in-Some-count.is at c.requires.count in
+    let own = rw (first (goal.at.returns-in_default-clause-turned c).In-Some-held) at c.look_at.ensures.1 in
+    rw (c.in-Some-count.is, own.0)
+    (turned_first c.args.self.now some turn c.requires.step own.1 (ap (λ x. c.in-Some-count.count - 1 + x) c.taken_before-through.ensures.value))
 
-pub returns-then-number-clause-looks : goal.returns-then-number-clause-looks
-returns-then-number-clause-looks c = looks_none c.args.number c.args.self.now
+pub returns-in_default-count-2-clause-looks : goal.returns-in_default-count-2-clause-looks
+returns-in_default-count-2-clause-looks c =
+    let held = rw c.in-Some.is at c.requires.turn.held in
+    looks_once 0 c.args.self.now c.look_at-in_default-count-2.ensures.0 (grind arith) c.look_at-in_default-count-2.ensures.1.0
+    c.look_at-in_default-count-2.ensures.1.1.1
 
-pub returns-then-self-before-clause-looks : goal.returns-then-self-before-clause-looks
-returns-then-self-before-clause-looks c = looks_none c.args.number c.args.self.now
+-- the period held is left for a later one
+left : (c : After-taken_before) {k : ℕ} → c.args.count ≡ Some k → IsLeft c.args.search.now.parts.now c.args.search.now.start k c.args.number
+    c.taken_before.result c.args.self.now.counted c.args.self.now.limit c.in-Some.period
+left c e =
+    let held = rw c.in-Some.is at c.requires.turn.held in
+    let passed = rw (e, c.in-Some.is) at c.requires.turn.passed in record {
+      some = c.args.search.now.interval;
+      own = held.0;
+      counted = rw (e, c.in-Some.is) at c.requires.turn.counted;
+      passed = elim passed [ inl same ↦ absurd (c.if-number.false (c.number.ensures ∙ same)) | inr on ↦ on ];
+      reach = omega (arith, c.requires.reach);
+      taken = c.taken_before.ensures.value;
+    }
+
+pub overflow_add-counted : goal.overflow_add-counted
+overflow_add-counted c =
+    let is = left c c.in-Some-count-2.is in
+    let small = counted_small c.args.number is.counted (let up = is.passed.up in omega (arith, up)) c.requires.step c.requires.reach in
+    omega (arith, small, c.taken_before.ensures.bound)
+
+pub returns-then-counted-self-clause-out : goal.returns-then-counted-self-clause-out
+returns-then-counted-self-clause-out c = λ no.
+    let left = left (goal.at.returns-then-counted-self-clause-out c).After-taken_before c.in-Some-count-2.is in
+    record { same = refl; none = rw c.in-Some-count-2.is (counted_out left c.if-counted-self.true) }
+
+pub returns-clause-looks : goal.returns-clause-looks
+returns-clause-looks c =
+    let up = IsPassed.up (IsLeft.passed (left (goal.at.returns-clause-looks c).After-taken_before c.in-Some-count-2.is)) in
+    looks_once (c.args.self.now.counted + c.taken_before.result) c.args.self.now c.look_at-2.ensures.0 (grind arith) c.look_at-2.ensures.1.0
+    c.look_at-2.ensures.1.1.1
+
+pub returns-clause-turned : goal.returns-clause-turned
+returns-clause-turned c = λ yes.
+    let left = left (goal.at.returns-clause-turned c).After-taken_before c.in-Some-count-2.is in
+    rw (c.in-Some-count-2.is, c.look_at-2.ensures.1.0)
+    (turned_on c.args.self.now left c.requires.step c.look_at-2.ensures.1.1.0 c.look_at-2.ensures.1.1.1)

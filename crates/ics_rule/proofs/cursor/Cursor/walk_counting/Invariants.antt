@@ -1,9 +1,0 @@
-use Rattle.std.proofs.Common.{◌+◌, ◌-◌}
-use Rattle.ics_rule.proofs.CountingLemmas.{IsCounting}
-use Rattle.ics_rule.proofs.cursor.Cursor.walk_counting.Given as goal
-
-abbrev pub invariant-loop-number : goal.invariant-loop-number
-invariant-loop-number l = IsCounting l.search.parts.now l.search.start l.count l.stop l.number l.fn.self l.self
-
-abbrev pub decreases-loop-number : goal.decreases-loop-number
-decreases-loop-number l = l.last + 1 - l.number
