@@ -36,6 +36,15 @@ pub struct SharedZones {
     shared: Vec<Zone>,
 }
 
+/// Whether an observance can begin several times a day.
+fn turns_often(observance: &Observance) -> bool {
+    let Some(rule) = &observance.rule else {
+        return false;
+    };
+    let parts = rule.parts();
+    !parts.hours.is_empty() || !parts.minutes.is_empty() || !parts.seconds.is_empty()
+}
+
 impl SharedZones {
     /// None so far. Those that will be shared are prepared between these instants.
     pub fn new(alloc: Global, from: Moment, to: Moment) -> SharedZones {
@@ -83,19 +92,21 @@ impl SharedZones {
             .any(|seen| are_same_observances(&seen.values, &ended.values))
     }
 
-    /// Prepares a zone, before it is shared.
-    fn prepare(&self, zone: &mut Zone)
+    /// Prepares a zone, before it is shared. Where its clock can turn often in a day, the onsets that are found may end soon, and it holds spans too.
+    fn prepare(&self, zone: &mut Zone, turns_often: bool)
         ensures { zone.new ≡ zone.old }
     {
         if self.to > self.from.saturating_add(LONG) {
             zone.reach_between(self.from.saturating_sub(BEFORE), self.from);
         }
         zone.reach_between(self.from, self.to);
-        zone.note_through(
-            self.from.saturating_sub(LASTING),
-            self.to.saturating_add(LASTING),
-        );
+        let first = self.from.saturating_sub(LASTING);
+        let last = self.to.saturating_add(LASTING);
+        zone.note_through(first, last);
         zone.learn();
+        if turns_often {
+            zone.reach_through(first, last);
+        }
     }
 
     /// The time zone with these observances, which is shared from now on.
@@ -103,8 +114,9 @@ impl SharedZones {
         requires { IsSoundZone ended }
         ensures { IfOk result (λ zone. zone_said zone ≡ ZoneSaid.ByObservances ended) }
     {
+        let often = ended.values.iter().any(|one| turns_often(one));
         let mut zone = zone_of(alloc, ended)?;
-        self.prepare(&mut zone);
+        self.prepare(&mut zone, often);
         self.shared.push(zone.share()?)?;
         Ok(zone)
     }

@@ -21,7 +21,7 @@ const YEARS_BEGIN: Moment = -EPOCH;
 const BEYOND: i64 = 5_000_000_000;
 
 /// How many hours of onsets are looked at for the end of a span, in a zone of one observance, and fewer if there are more.
-const HOURS: usize = 2_048;
+const HOURS: usize = 256;
 
 /// How many onsets are found of each observance at most, and of all together.
 const FOUND_OF_EACH: usize = 8_192;
