@@ -1,3 +1,4 @@
 -- Words of private contracts and of proofs: no public clause reaches them.
+pub mod ClockStretches
 pub mod Finds
 pub mod KeptFinds

@@ -3,12 +3,14 @@ ghost use Rattle.std.specs.Prelude.{◌≡◌, ◌<ℤ◌, ◌≤ℤ◌, ◌+ℤ
 ghost use Rattle.std.specs.List.Sorted.{IsSorted};
 ghost use Rattle.std.specs.Ordering.{int_cmp};
 ghost use Rattle.ics_starts.specs.Clocks.{clock_of, instant};
+ghost use Rattle.ics_starts.specs.Inner.ClockStretches.{AreKnown};
 ghost use Rattle.ics_starts.specs.Exclusions.{excludes, is_among, is_excluded, is_known, shown_day, takes_out, with_instant};
 ghost use Rattle.ics_starts.specs.FileZones.{clocks_in, IsOwnEvent, IsTimeOf};
 ghost use Rattle.ics_starts.specs.Found.{counts};
 ghost use Rattle.ics_fields.specs.Locals.{day_of_local};
 ghost use Rattle.ics_listing.specs.WindowBounds.{window_last, occurrence_first};
 
+use crate::clock_stretch::ClockStretches;
 use crate::instants::is_at;
 use crate::listed::counted;
 use crate::zones::FileZones;
@@ -45,12 +47,14 @@ impl Exclusions {
     pub(crate) fn new(
         alloc: Global,
         zones: FileZones<'_>,
+        known: &mut ClockStretches,
         event: &Event,
         window: &Window,
         from: Moment,
         running: Vec<Moment>,
     ) -> Result<Exclusions, AllocError>
         requires event { IsOwnEvent zones event.now }
+        requires known { AreKnown (clocks_in zones) known.old }
         requires order { IsSorted int_cmp running.items }
         ensures { IfOk result (λ exclusions. AreExclusions (clocks_in zones.entry) event.now window.now
             exclusions.from exclusions.running.items exclusions.instants.items exclusions.days.items) }
@@ -62,6 +66,7 @@ impl Exclusions {
                 &mut instants,
                 &mut days,
                 zones,
+                known,
                 event.start,
                 *exdate,
                 window,
@@ -194,6 +199,7 @@ fn push_exdate(
     instants: &mut Vec<Moment>,
     days: &mut Vec<i32>,
     zones: FileZones<'_>,
+    known: &mut ClockStretches,
     first: Time,
     exdate: Time,
     window: &Window,
@@ -201,7 +207,9 @@ fn push_exdate(
     running: &[Moment],
 ) -> Result<(), AllocError>
     requires time { IsTimeOf zones.zones.now exdate }
+    requires known { AreKnown (clocks_in zones) known.old }
     requires order { IsSorted int_cmp running.now }
+    ensures known { AreKnown (clocks_in zones.entry) known.new }
     ensures only { IfOk result (λ _. (t : ℤ) → let clocks = clocks_in zones.entry in
         takes_out (clock_of clocks first) instants.new.items days.new.items t ≡ true
         → (takes_out (clock_of clocks first) instants.old.items days.old.items t || excludes clocks first exdate t) ≡ true) }
@@ -211,10 +219,18 @@ fn push_exdate(
 {
     match (first.stamp, exdate.stamp) {
         (Stamp::Date(_), _) => {
-            push_instant(instants, zones, date_of(exdate), window, from, running)?
+            push_instant(
+                instants,
+                zones,
+                known,
+                date_of(exdate),
+                window,
+                from,
+                running,
+            )?
         }
         (_, Stamp::Date(day)) => days.push(day)?,
-        _ => push_instant(instants, zones, exdate, window, from, running)?,
+        _ => push_instant(instants, zones, known, exdate, window, from, running)?,
     }
     Ok(())
 }
@@ -223,17 +239,20 @@ fn push_exdate(
 fn push_instant(
     instants: &mut Vec<Moment>,
     zones: FileZones<'_>,
+    known: &mut ClockStretches,
     time: Time,
     window: &Window,
     from: Moment,
     running: &[Moment],
 ) -> Result<(), AllocError>
     requires time { IsTimeOf zones.zones.now time }
+    requires known { AreKnown (clocks_in zones) known.old }
     requires order { IsSorted int_cmp running.now }
-    ensures { IfOk result (λ _. let t = instant (clocks_in zones.entry) time in
+    ensures known { AreKnown (clocks_in zones.entry) known.new }
+    ensures instants { IfOk result (λ _. let t = instant (clocks_in zones.entry) time in
         instants.new.items ≡ with_instant (counts window.now from time (is_among running.now t)) instants.old.items t) }
 {
-    if let Some(moment) = counted(zones, time, window, from, running) {
+    if let Some(moment) = counted(zones, known, time, window, from, running) {
         instants.push(moment)?;
     }
     Ok(())

@@ -6,6 +6,7 @@ ghost use Rattle.std.specs.Ordering.{int_cmp};
 ghost use Rattle.ics_event.specs.Event.{IsRdate, IsSpan};
 ghost use Rattle.ics_fields.specs.Locals.{whole_days};
 ghost use Rattle.ics_starts.specs.Clocks.{instant};
+ghost use Rattle.ics_starts.specs.Inner.ClockStretches.{AreKnown};
 ghost use Rattle.ics_starts.specs.Exclusions.{is_among};
 ghost use Rattle.ics_starts.specs.Found.{begins_at, counts, is_between, is_over, listed_from, span_local, AreRunning};
 ghost use Rattle.ics_starts.specs.Quiet.{AreListedAgain, IsAgain};
@@ -14,6 +15,7 @@ ghost use Rattle.ics_starts.specs.FileZones.{clocks_in, IsOwnEvent, IsTimeOf};
 ghost use Rattle.ics_listing.specs.StartTimes.{time_of};
 ghost use Rattle.ics_listing.specs.WindowBounds.{lasts_most, occurrence_first};
 
+use crate::clock_stretch::{ClockStretches, instant_by};
 use crate::exclusion::is_among;
 use crate::instants::{TWO_DAYS, instant, is_early, is_outside};
 use crate::starts::FOUR_DAYS;
@@ -25,7 +27,7 @@ use std::alloc::{AllocError, Global};
 
 const DAY: i64 = 86_400;
 
-/// So many instants or fewer are a few.
+/// So many instants or fewer are a few, which are looked at one by one.
 const FEW: usize = 16;
 
 /// The local at which a PERIOD that begins at a time is to end, if each day has 86,400 seconds.
@@ -65,19 +67,22 @@ pub(crate) fn counts_from(met: Moment) -> Moment
 fn push_running(
     running: &mut Vec<Moment>,
     zones: FileZones<'_>,
+    known: &mut ClockStretches,
     given: Rdate,
     window: &Window,
     from: Moment,
 ) -> Result<(), AllocError>
     requires value { IsRdate given }
     requires time { IsTimeOf zones.zones.now (time_of given) }
-    ensures { IfOk result (λ _. (t : ℤ) → t <ℤ from → is_among running.new.items t
+    requires known { AreKnown (clocks_in zones) known.old }
+    ensures known { AreKnown (clocks_in zones.entry) known.new }
+    ensures running { IfOk result (λ _. (t : ℤ) → t <ℤ from → is_among running.new.items t
         ≡ (is_among running.old.items t || begins_at (clocks_in zones.entry) window.now t given)) }
 {
     if let Rdate::Span(start, length) = given {
         let begun = local_of(start.stamp).seconds() - TWO_DAYS < from;
         if begun && !is_over(start, length, window) {
-            running.push(instant(zones, start))?;
+            running.push(instant_by(zones, start, known))?;
         }
     }
     Ok(())
@@ -87,11 +92,14 @@ fn push_running(
 pub(crate) fn running(
     alloc: Global,
     zones: FileZones<'_>,
+    known: &mut ClockStretches,
     event: &Event,
     window: &Window,
     from: Moment,
 ) -> Result<Vec<Moment>, AllocError>
-    requires { IsOwnEvent zones event.now }
+    requires event { IsOwnEvent zones event.now }
+    requires known { AreKnown (clocks_in zones) known.old }
+    ensures known { AreKnown (clocks_in zones.entry) known.new }
     ensures order { IfOk result (λ running. IsSorted int_cmp running.items) }
     ensures are { IfOk result (λ running. AreRunning (clocks_in zones.entry) window.now event.now from running.items) }
 {
@@ -100,6 +108,7 @@ pub(crate) fn running(
         push_running(
             &mut running,
             zones,
+            known,
             given_by(event.start, *rdate),
             window,
             from,
@@ -116,28 +125,50 @@ fn is_between(moment: Moment, from: Moment, to: Moment) -> bool
     (from < moment) & (moment < to)
 }
 
-/// Whether one of some instants is between two others.
+/// Whether one of a few instants is between two others.
 fn any_between(instants: &[Moment], from: Moment, to: Moment) -> bool
     ensures { result ≡ list_any (is_between from to) instants.now }
 {
     instants.iter().any(|moment| is_between(*moment, from, to))
 }
 
-/// The instant of a time, if it is one of those of a list in order. No zone is asked, if the time's local tells that it is none of a few.
+/// Whether one of some instants in order is between two others.
+fn has_between(instants: &[Moment], from: Moment, to: Moment) -> bool
+    requires { IsSorted int_cmp instants.now }
+    ensures { result ≡ list_any (is_between from to) instants.now }
+{
+    if instants.len() <= FEW {
+        return any_between(instants, from, to);
+    }
+    let past = instants.partition_point(|moment| *moment <= from);
+    if past == instants.len() {
+        return false;
+    }
+    instants[past] < to
+}
+
+/// The instant of a time, if it is one of those of a list in order. No zone is asked, if the time's local tells that it is none of them.
 #[inline]
-fn among(zones: FileZones<'_>, time: Time, instants: &[Moment]) -> Option<Moment>
+fn among(
+    zones: FileZones<'_>,
+    known: &mut ClockStretches,
+    time: Time,
+    instants: &[Moment],
+) -> Option<Moment>
     requires time { IsTimeOf zones.zones.now time }
+    requires known { AreKnown (clocks_in zones) known.old }
     requires order { IsSorted int_cmp instants.now }
-    ensures { result ≡ (let t = instant (clocks_in zones.entry) time in if is_among instants.now t then Some t else None) }
+    ensures known { AreKnown (clocks_in zones.entry) known.new }
+    ensures found { result ≡ (let t = instant (clocks_in zones.entry) time in if is_among instants.now t then Some t else None) }
 {
     if instants.is_empty() {
         return None;
     }
     let local = local_of(time.stamp).seconds();
-    if instants.len() <= FEW && !any_between(instants, local - TWO_DAYS, local + TWO_DAYS) {
+    if !has_between(instants, local - TWO_DAYS, local + TWO_DAYS) {
         return None;
     }
-    let moment = instant(zones, time);
+    let moment = instant_by(zones, time, known);
     if is_among(instants, moment) {
         Some(moment)
     } else {
@@ -150,18 +181,21 @@ fn among(zones: FileZones<'_>, time: Time, instants: &[Moment]) -> Option<Moment
 #[inline(always)]
 pub(crate) fn counted(
     zones: FileZones<'_>,
+    known: &mut ClockStretches,
     time: Time,
     window: &Window,
     from: Moment,
     running: &[Moment],
 ) -> Option<Moment>
     requires time { IsTimeOf zones.zones.now time }
+    requires known { AreKnown (clocks_in zones) known.old }
     requires order { IsSorted int_cmp running.now }
-    ensures { result ≡ (let t = instant (clocks_in zones.entry) time in
+    ensures known { AreKnown (clocks_in zones.entry) known.new }
+    ensures counted { result ≡ (let t = instant (clocks_in zones.entry) time in
         if counts window.now from time (is_among running.now t) then Some t else None) }
 {
     if is_early(time, from) {
-        return among(zones, time, running);
+        return among(zones, known, time, running);
     }
     if is_outside(time, window, from) {
         return None;
@@ -173,20 +207,23 @@ pub(crate) fn counted(
 pub(crate) fn push_listed(
     starts: &mut Vec<Start>,
     zones: FileZones<'_>,
+    known: &mut ClockStretches,
     event: &Event,
     window: &Window,
     from: Moment,
     running: &[Moment],
 ) -> Result<(), AllocError>
     requires event { IsOwnEvent zones event.now }
+    requires known { AreKnown (clocks_in zones) known.old }
     requires order { IsSorted int_cmp running.now }
     requires running { AreRunning (clocks_in zones) window.now event.now from running.now }
-    ensures { IfOk result (λ _. starts.new.items
+    ensures known { AreKnown (clocks_in zones.entry) known.new }
+    ensures starts { IfOk result (λ _. starts.new.items
         ≡ starts.old.items ++ listed_from (clocks_in zones.entry) window.now from event.now 0 event.now.rdates) }
 {
     for (place, rdate) in event.rdates.iter().enumerate() {
         let given = given_by(event.start, *rdate);
-        let Some(moment) = counted(zones, time_of(given), window, from, running) else {
+        let Some(moment) = counted(zones, known, time_of(given), window, from, running) else {
             continue;
         };
         starts.push(Start {

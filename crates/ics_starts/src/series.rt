@@ -9,6 +9,7 @@ ghost use Rattle.ics_starts.specs.EventLaws.{own-event-prop};
 ghost use Rattle.ics_starts.specs.Exclusions.{is_excluded, AreExclusions};
 ghost use Rattle.ics_listing.specs.StartOrder.{moment_cmp};
 ghost use Rattle.ics_starts.specs.Clocks.{clock_of, AreSpansOf, IsStretched};
+ghost use Rattle.ics_starts.specs.Inner.ClockStretches.{AreKnown};
 ghost use Rattle.ics_starts.specs.Finish.{AreLasting};
 ghost use Rattle.ics_starts.specs.Found.{counts_from, first_met, AreRunning, IsStartIn};
 ghost use Rattle.ics_listing.specs.FileClocks.{Clock};
@@ -28,6 +29,7 @@ ghost use Rattle.ics_starts.specs.FileZones.{clocks_in, IsOwnEvent};
 ghost use Rattle.ics_listing.specs.WindowBounds.{lasts_most, occurrence_first};
 ghost use Rattle.ics_listing.specs.declared.start.Start.{Start};
 
+use crate::clock_stretch::ClockStretches;
 use crate::ends::Ends;
 use crate::exclusion::{Exclusions, is_excluded};
 use crate::instants::{bounds, no_stretch};
@@ -89,22 +91,25 @@ pub struct Series<'a> {
 fn listed_apart(
     alloc: Global,
     zones: FileZones<'_>,
+    known: &mut ClockStretches,
     event: &Event,
     window: &Window,
     from: Moment,
     running: &[Moment],
 ) -> Result<Vec<Start>, AllocError>
     requires event { IsOwnEvent zones event.now }
+    requires known { AreKnown (clocks_in zones) known.old }
     requires from { from ≡ counts_from (clocks_in zones) window.now event.now }
     requires order { IsSorted int_cmp running.now }
     requires running { AreRunning (clocks_in zones) window.now event.now from running.now }
-    ensures { IfOk result (λ starts. starts.items ≡ listed_apart (clocks_in zones.entry) window.now event.now event.now.rule) }
+    ensures known { AreKnown (clocks_in zones.entry) known.new }
+    ensures starts { IfOk result (λ starts. starts.items ≡ listed_apart (clocks_in zones.entry) window.now event.now event.now.rule) }
 {
     let mut starts = Vec::new(alloc);
     if event.rule.is_none() {
         starts.push(start_at(zones, event, local_of(event.start.stamp)))?;
     }
-    push_listed(&mut starts, zones, event, window, from, running)?;
+    push_listed(&mut starts, zones, known, event, window, from, running)?;
     Ok(starts)
 }
 
@@ -325,9 +330,10 @@ impl<'a> Series<'a> {
     {
         let met = first_met(zones, event, &window);
         let from = counts_from(met);
-        let running = running(alloc, zones, event, &window, from)?;
-        let listed = listed_apart(alloc, zones, event, &window, from, &running)?;
-        let exclusions = Exclusions::new(alloc, zones, event, &window, from, running)?;
+        let mut known = ClockStretches::none();
+        let running = running(alloc, zones, &mut known, event, &window, from)?;
+        let listed = listed_apart(alloc, zones, &mut known, event, &window, from, &running)?;
+        let exclusions = Exclusions::new(alloc, zones, &mut known, event, &window, from, running)?;
         let rule_starts = starts_by_rule(
             alloc, zones, event, window, since, met, &listed, mark, kept,
         );

@@ -13,10 +13,11 @@ pub returns-in_ok-push_instant-in-Date-default : goal.returns-in_ok-push_instant
 returns-in_ok-push_instant-in-Date-default c =
     let clocks = clocks_in c.args.zones in
     let before = λ (t : ℤ). takes_out (clock_of clocks c.args.first) c.args.instants.now.items c.args.days.now.items t in
-    let pushed = rw (moment-back c.args.from c.ranges.from.sfits) at c.in_ok-push_instant-in-Date-default.ensures in
+    let pushed = rw (moment-back c.args.from c.ranges.from.sfits) at c.in_ok-push_instant-in-Date-default.ensures.instants in
     let same = λ (t : ℤ). ap (λ (x : Time). before t || int_eq (instant clocks x) t) c.date_of.ensures
     ∙ ap (λ (s : Stamp). before t || excludes_by clocks c.args.first s c.args.exdate t) (sym c.in-Date-default.is-0) in
     record {
+      known = c.push_instant.ensures.known;
       only = λ t out. sym (same t) ∙ pushed-only c.args.zones c.args.window.now c.args.from c.args.running.now (clock_of clocks c.args.first)
           c.args.instants.now.items c.args.days.now.items c.date_of.result t pushed out;
       same = λ t known early. pushed-instant c.args.zones c.args.window.now c.args.from c.args.running.now (clock_of clocks c.args.first)
@@ -26,10 +27,11 @@ returns-in_ok-push_instant-in-Date-default c =
 pub returns-in_ok-push_instant-in_default : goal.returns-in_ok-push_instant-in_default
 returns-in_ok-push_instant-in_default c =
     let clocks = clocks_in c.args.zones in
-    let pushed = rw (moment-back c.args.from c.ranges.from.sfits) at c.in_ok-push_instant-in_default.ensures in
+    let pushed = rw (moment-back c.args.from c.ranges.from.sfits) at c.in_ok-push_instant-in_default.ensures.instants in
     let same = λ (t : ℤ). ap (λ b. takes_out (clock_of clocks c.args.first) c.args.instants.now.items c.args.days.now.items t || b)
     (sym (excludes-instant clocks c.args.first c.args.exdate c.args.first.stamp t c.in_default.not-Date-0 c.in_default.not-Date-1)) in
     record {
+      known = c.push_instant-in_default.ensures.known;
       only = λ t out. sym (same t) ∙ pushed-only c.args.zones c.args.window.now c.args.from c.args.running.now (clock_of clocks c.args.first)
           c.args.instants.now.items c.args.days.now.items c.args.exdate t pushed out;
       same = λ t known early. pushed-instant c.args.zones c.args.window.now c.args.from c.args.running.now (clock_of clocks c.args.first)
@@ -49,4 +51,4 @@ returns-in_ok-push-in_default-Date c =
     let same = λ (t : ℤ). ap (λ xs. takes_out clock instants xs t) pushed ∙ (pushed-day clock instants days day t
     ∙ ap (λ b. takes_out clock instants days t || b)
     (sym (excludes-day clocks c.args.first c.args.exdate c.args.first.stamp day t c.in_default-Date.not-Date-0 c.in_default-Date.is-1))) in
-    record { only = λ t out. sym (same t) ∙ out; same = λ t known early. same t }
+    record { known = c.requires.known; only = λ t out. sym (same t) ∙ out; same = λ t known early. same t }

@@ -41,13 +41,13 @@ none-of : (xs : List ℤ) (t : ℤ) → (length xs == 0) ≡ true → is_among x
 none-of [] t e = refl
 none-of (x ∷ xs) t e = let none : suc (length xs) ≡ 0 = grind (arith, nat_tests, e) in absurd (omega (arith, none))
 
-pub returns-then-is_empty : goal.returns-then-is_empty
-returns-then-is_empty c =
+pub returns-then-is_empty-clause-found : goal.returns-then-is_empty-clause-found
+returns-then-is_empty-clause-found c =
     let t = instant (clocks_in c.args.zones) c.args.time in
     sym (ap (λ b. if b then Some t else None) (none-of c.args.instants.now t (sym c.is_empty.ensures ∙ c.if-is_empty.true)))
 
-pub returns-then-not-any_between : goal.returns-then-not-any_between
-returns-then-not-any_between c =
+pub returns-then-not-has_between-clause-found : goal.returns-then-not-has_between-clause-found
+returns-then-not-has_between-clause-found c =
     let t = instant (clocks_in c.args.zones) c.args.time in
     let at : c.seconds-local.result ≡ stamp_seconds c.args.time.stamp =
     c.seconds-local.ensures ∙ (ap (λ (l : Local). local_seconds l) c.local_of.ensures ∙ seconds-of c.args.time.stamp) in
@@ -55,5 +55,5 @@ returns-then-not-any_between c =
     let near = instant-near c.args.zones c.args.time in
     let none : is_among c.args.instants.now t ≡ false =
     none-between _ _ t c.args.instants.now (omega (arith, ints, at, years.0, years.1, near)) (omega (arith, ints, at, years.0, years.1, near))
-    (sym c.any_between.ensures ∙ c.if-not-any_between.true) in
+    (sym c.has_between.ensures ∙ c.if-not-has_between.true) in
     sym (ap (λ b. if b then Some t else None) none)

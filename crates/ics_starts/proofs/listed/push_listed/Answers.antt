@@ -54,11 +54,14 @@ loop-place-preserved-in_default c =
     let same : c.time_of.result ≡ time_of (given_by event.start r) = c.time_of.ensures ∙ ap time_of given in
     let are = subst (λ f. AreRunning clocks w event f running) (sym (moment-back c.args.from c.ranges.from.sfits)) c.requires.running in
     let told : counts w from c.time_of.result (is_among running (instant clocks c.time_of.result)) ≡ false =
-    if-none _ (instant clocks c.time_of.result) (sym c.in_default.is ∙ c.counted.ensures) in
+    if-none _ (instant clocks c.time_of.result) (sym c.in_default.is ∙ c.counted.ensures.counted) in
     let step = listed-step clocks w from event k event.rdates false there item
     (sym (counts-same c.args.zones w event from running are (time_of (given_by event.start r)))
     ∙ subst (λ (x : Time). counts w from x (is_among running (instant clocks x)) ≡ false) same told) in
-    sym (ap (λ (xs : List Start). c.loop-place.starts.items ++ xs) step) ∙ c.loop-place.invariant
+    record {
+      known = c.counted.ensures.known;
+      starts = sym (ap (λ (xs : List Start). c.loop-place.starts.items ++ xs) step) ∙ c.loop-place.invariant.starts;
+    }
 
 pub loop-place-preserved : goal.loop-place-preserved
 loop-place-preserved c =
@@ -76,7 +79,7 @@ loop-place-preserved c =
     let same : c.time_of.result ≡ time_of (given_by event.start r) = c.time_of.ensures ∙ ap time_of given in
     let are = subst (λ f. AreRunning clocks w event f running) (sym (moment-back c.args.from c.ranges.from.sfits)) c.requires.running in
     let told = if-some (counts w from c.time_of.result (is_among running (instant clocks c.time_of.result))) c.in-Some.moment
-    (instant clocks c.time_of.result) (sym c.in-Some.is ∙ c.counted.ensures) in
+    (instant clocks c.time_of.result) (sym c.in-Some.is ∙ c.counted.ensures.counted) in
     let step = listed-step clocks w from event k event.rdates true there item
     (sym (counts-same c.args.zones w event from running are (time_of (given_by event.start r)))
     ∙ subst (λ (x : Time). counts w from x (is_among running (instant clocks x)) ≡ true) same told.0) in
@@ -88,8 +91,11 @@ loop-place-preserved c =
     let pushed : c.push.new.self.items ≡ c.loop-place.starts.items ++ (start ∷ []) = c.in_ok-push.ensures.items in
     let is : start ≡ start_by clocks (Listed k) (given_by event.start r) = λ i. record { moment = moment i; source = Listed k; given = given i } in
     let next : c.push.new.self.items ++ rest ≡ c.loop-place.starts.items ++ (start ∷ rest) = grind (arith, common_steps, pushed) in
-    next ∙ (ap (λ (s : Start). c.loop-place.starts.items ++ (s ∷ rest)) is
-    ∙ (sym (ap (λ (xs : List Start). c.loop-place.starts.items ++ xs) step) ∙ c.loop-place.invariant))
+    record {
+      known = c.counted.ensures.known;
+      starts = next ∙ (ap (λ (s : Start). c.loop-place.starts.items ++ (s ∷ rest)) is
+          ∙ (sym (ap (λ (xs : List Start). c.loop-place.starts.items ++ xs) step) ∙ c.loop-place.invariant.starts));
+    }
 
-pub returns : goal.returns
-returns c = grind (arith, ints, common_steps)
+pub returns-clause-starts : goal.returns-clause-starts
+returns-clause-starts c = grind (arith, ints, common_steps)

@@ -31,8 +31,8 @@ and-none : (a b : Bool) → b ≡ false → (a && b) ≡ false
 and-none true b e = e
 and-none false b e = refl
 
-pub returns-in_ok-push : goal.returns-in_ok-push
-returns-in_ok-push c =
+pub returns-in_ok-push-clause-running : goal.returns-in_ok-push-clause-running
+returns-in_ok-push-clause-running c =
     let clocks = clocks_in c.args.zones in
     let w = c.args.window.now in
     let start = c.in-Span.start in
@@ -41,13 +41,13 @@ returns-in_ok-push c =
     let begins : begins_at clocks w t c.args.given ≡ int_eq (instant clocks start) t =
     ap (begins_at clocks w t) c.in-Span.is
     ∙ ap (λ b. not b && int_eq (instant clocks start) t) (sym c.is_over.ensures ∙ c.if-not-is_over.true) in
-    let moment : to_z w64 (of_z w64 c.instant.result) ≡ instant clocks start = moment-back c.instant.result c.instant.type_inv ∙ c.instant.ensures in
+    let moment : to_z w64 (of_z w64 c.instant_by.result) ≡ instant clocks start = moment-back c.instant_by.result c.instant_by.type_inv ∙ c.instant_by.ensures.instant in
     ap (λ xs. is_among xs t) c.in_ok-push.ensures.items
-    ∙ (one-more before (to_z w64 (of_z w64 c.instant.result)) t
+    ∙ (one-more before (to_z w64 (of_z w64 c.instant_by.result)) t
     ∙ (ap (λ m. is_among before t || int_eq m t) moment ∙ ap (λ b. is_among before t || b) (sym begins)))
 
-pub returns-else-begun : goal.returns-else-begun
-returns-else-begun c =
+pub returns-else-begun-clause-running : goal.returns-else-begun-clause-running
+returns-else-begun-clause-running c =
     let clocks = clocks_in c.args.zones in
     let w = c.args.window.now in
     let start = c.in-Span.start in

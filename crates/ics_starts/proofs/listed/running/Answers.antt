@@ -27,7 +27,7 @@ push_running-requires-clause-value c =
     (slice_get_read c.deref-rdate-items.result.now (length c.deref-rdate-items.result.now) k r refl c.loop-rdate-test.true c.rdate-item.is) in
     let given : c.given_by.result ≡ given_by event.start r = c.given_by.ensures ∙ ap (λ (v : Event). given_by v.start r) c.event.view_is in
     subst IsRdate (sym given)
-    (given-value event.start event.start.stamp r c.requires.is_event.start (all-at IsRdate event.rdates k r c.requires.is_event.rdates there))
+    (given-value event.start event.start.stamp r c.requires.event.is_event.start (all-at IsRdate event.rdates k r c.requires.event.is_event.rdates there))
 
 pub push_running-requires-clause-time : goal.push_running-requires-clause-time
 push_running-requires-clause-time c =
@@ -40,7 +40,7 @@ push_running-requires-clause-time c =
     (slice_get_read c.deref-rdate-items.result.now (length c.deref-rdate-items.result.now) k r refl c.loop-rdate-test.true c.rdate-item.is) in
     let given : c.given_by.result ≡ given_by event.start r = c.given_by.ensures ∙ ap (λ (v : Event). given_by v.start r) c.event.view_is in
     subst (λ v. IsTimeOf c.args.zones.zones.now (time_of v)) (sym given)
-    (given-time c.args.zones event (Listed k) (given_by event.start r) c.requires (r, there, refl))
+    (given-time c.args.zones event (Listed k) (given_by event.start r) c.requires.event (r, there, refl))
 
 pub returns-clause-are : goal.returns-clause-are
 returns-clause-are c =
@@ -50,5 +50,5 @@ returns-clause-are c =
     let items : c.deref-rdate-items.result.now ≡ event.rdates = c.deref-rdate-items.ensures.value ∙ ap (λ (v : Event). v.rdates) c.event.view_is in
     let over : length event.rdates ≤ k = subst (λ (xs : List Rdate). length xs ≤ k) items c.loop-rdate-test.false in
     λ t early. sym (list_any-IsPermutation (λ x. int_eq x t) c.loop-rdate.running.items c.sort_unstable.new.self.items c.sort_unstable.ensures.permutation)
-    ∙ (c.loop-rdate.invariant t (omega (arith, ints, early, c.ranges.from))
+    ∙ (c.loop-rdate.invariant.are t (omega (arith, ints, early, c.ranges.from))
     ∙ ap (λ (xs : List Rdate). list_any (λ r. begins_at clocks c.args.window.now t (given_by event.start r)) xs) (take_all k event.rdates over))

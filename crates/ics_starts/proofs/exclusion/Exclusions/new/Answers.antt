@@ -25,6 +25,7 @@ loop-exdate-preserved c =
     λ t. ap (λ (y : Time). list_any (λ e. excludes clocks event.start e t) (take k event.exdates) || excludes clocks event.start y t) item
     ∙ sym (list_any_more (λ e. excludes clocks event.start e t) event.exdates k x there) in
     record {
+      known = c.push_exdate.ensures.known;
       only = λ t out. sym (more t) ∙ or-more _ _ (excludes clocks event.start x t) (c.loop-exdate.invariant.only t)
           (subst (λ (v : Event). (takes_out (clock_of clocks v.start) c.loop-exdate.instants.items c.loop-exdate.days.items t
           || excludes clocks v.start x t) ≡ true) c.event.view_is (c.in_ok-push_exdate.ensures.only t (subst (λ (v : Event).

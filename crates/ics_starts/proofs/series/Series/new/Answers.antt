@@ -229,6 +229,9 @@ module _ (zones : FileZones) (w : Window) (event : Event) where
         let has = ruled (starts_left starts) (by-rdates r) local k.0 (rw (← k.1) at sought) (rw (← k.1) at met.1.0) in
         in-moment has.start o.start (starts_left starts) (has.same ∙ k.1) has.stands
 
+pub running-requires-clause-known : goal.running-requires-clause-known
+running-requires-clause-known c = c.none-known.ensures (clocks_in c.args.zones)
+
 pub starts_by_rule-rule_starts-requires-clause-listed : goal.starts_by_rule-rule_starts-requires-clause-listed
 starts_by_rule-rule_starts-requires-clause-listed c =
     let event = c.args.event.now in
@@ -236,7 +239,7 @@ starts_by_rule-rule_starts-requires-clause-listed c =
     let s : Start = get_or c.deref-2.result.now k d in
     let there : IsIn s c.deref-2.result.now = in-contains s c.deref-2.result.now (Contains-get_or c.deref-2.result.now k d l) in
     start-in c.args.zones c.args.window event c.requires.own s
-    (start-apart c.args.zones c.args.window event event.rule s (subst (IsIn s) (c.deref-2.ensures.value ∙ c.in_ok-listed.ensures) there))
+    (start-apart c.args.zones c.args.window event event.rule s (subst (IsIn s) (c.deref-2.ensures.value ∙ c.in_ok-listed.ensures.starts) there))
 
 pub invariant_of-result : goal.invariant_of-result
 invariant_of-result c =
@@ -246,8 +249,8 @@ invariant_of-result c =
     let fits : SFits w64 c.args.since = c.ranges.since in
     let since : to_z w64 (of_z w64 c.args.since) ≡ c.args.since = omega (arith, ints) in
     let sound = c.requires.own.is_event in
-    let firsts = rw c.in_ok-listed.ensures at c.in_ok-new.ensures in
-    let ruled = rw (since, c.deref-2.ensures.value ∙ c.in_ok-listed.ensures) at c.starts_by_rule-rule_starts.ensures.from in
+    let firsts = rw c.in_ok-listed.ensures.starts at c.in_ok-new.ensures in
+    let ruled = rw (since, c.deref-2.ensures.value ∙ c.in_ok-listed.ensures.starts) at c.starts_by_rule-rule_starts.ensures.from in
     let starts = starts-since c.args.zones w event sound c.args.since (listed_left c.in_ok-new.field-0) firsts c.starts_by_rule-rule_starts.result ruled in
     let listing = series-listing clocks w event c.args.since c.args.replaced.instants.items
     (left c.starts_by_rule-rule_starts.result c.in_ok-new.field-0) starts in
@@ -262,7 +265,7 @@ invariant_of-result c =
           (has-ruled c.args.zones w event sound c.args.since c.args.replaced.instants.items c.starts_by_rule-rule_starts.result
           (given_of clocks w event c.args.since c.args.replaced.instants.items (left c.starts_by_rule-rule_starts.result c.in_ok-new.field-0)) ruled listing);
       own_rule = subst (λ xs. HasOwnRule c.args.zones event w (first_asked clocks w event (to_z w64 (of_z w64 c.args.since)) xs)
-          c.starts_by_rule-rule_starts.result) (c.deref-2.ensures.value ∙ c.in_ok-listed.ensures) c.starts_by_rule-rule_starts.ensures.own;
+          c.starts_by_rule-rule_starts.result) (c.deref-2.ensures.value ∙ c.in_ok-listed.ensures.starts) c.starts_by_rule-rule_starts.ensures.own;
       rising = rw since listing.rises;
     }
 
@@ -274,8 +277,8 @@ returns c =
     let fits : SFits w64 c.args.since = c.ranges.since in
     let since : to_z w64 (of_z w64 c.args.since) ≡ c.args.since = omega (arith, ints) in
     let sound = c.requires.own.is_event in
-    let firsts = rw c.in_ok-listed.ensures at c.in_ok-new.ensures in
-    let ruled = rw (since, c.deref-2.ensures.value ∙ c.in_ok-listed.ensures) at c.starts_by_rule-rule_starts.ensures.from in
+    let firsts = rw c.in_ok-listed.ensures.starts at c.in_ok-new.ensures in
+    let ruled = rw (since, c.deref-2.ensures.value ∙ c.in_ok-listed.ensures.starts) at c.starts_by_rule-rule_starts.ensures.from in
     let starts = starts-since c.args.zones w event sound c.args.since (listed_left c.in_ok-new.field-0) firsts c.starts_by_rule-rule_starts.result ruled in
     record {
       listing = rw since
