@@ -1,2 +1,3 @@
 pub mod NearDayLemmas
+pub mod NearPlaceLemmas
 pub mod ShownLemmas

@@ -83,7 +83,7 @@ since-start {key = key} uid k g e = λ o u r low high.
     ∙ ap (λ x. int_le x o.start) (sym e))
 
 -- the next instant, where there is one
-saturated : (a t x : ℤ) → t ≡ saturate_signed w64 (a +ℤ pos 1) → SFits w64 a → x <ℤ pos 9_223_372_036_854_775_807 → (a <ℤ x → t ≤ℤ x) × (x ≤ℤ a → x <ℤ t)
+pub saturated : (a t x : ℤ) → t ≡ saturate_signed w64 (a +ℤ pos 1) → SFits w64 a → x <ℤ pos 9_223_372_036_854_775_807 → (a <ℤ x → t ≤ℤ x) × (x ≤ℤ a → x <ℤ t)
 saturated (pos n) t x e f h = (λ l. grind (arith, ints), λ l. grind (arith, ints))
 saturated _ t x e f h = (λ l. grind (arith, ints), λ l. grind (arith, ints))
 

@@ -17,10 +17,10 @@ use Rattle.ics_listing.specs.Rising.{Rises}
 use Rattle.ics_listing.specs.declared.window.Window.{Window}
 use Rattle.ics_listing.proofs.ListingLemmas.{all-in, before-each, get-in}
 use Rattle.ics_series.specs.Inner.Masters.{HasLists, HasSources}
-use Rattle.ics_series.specs.Inner.NearPlaces.{AreNear, AreSameBut}
+use Rattle.ics_days.specs.NearPlaces.{AreNear, AreSameBut}
 use Rattle.ics_series.specs.Inner.Spans.{AreSpans, IsMovedOn, IsStartedBy}
 use Rattle.ics_series.specs.Singles.{single_at}
-use Rattle.ics_series.specs.declared.span.Span.{Span}
+use Rattle.ics_days.specs.declared.span.Span.{Span}
 use Rattle.ics_series.specs.declared.version.Version.{Version}
 use Rattle.ics_series.specs.Versions.{seen, AreChosen, Label}
 use Rattle.ics_series.proofs.OverrideLemmas.{any_version}

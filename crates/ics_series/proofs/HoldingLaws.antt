@@ -117,7 +117,7 @@ lead-few : (head : Option Occurrence) (p : Part) →
     length (listed head (part_holds p)) ≤ sum_by once (part_sources p) + sum_by most_of (recurring (part_sources p))
 lead-few head (Singles s) = omega (arith, one-drawn head [], sum_by-cons once Once [])
 lead-few head (Series s) =
-    omega (arith, one-drawn head (series_holds s.value), series-few s.value, sum_by-cons most_of (master_in s.value) [])
+    omega (arith, one-drawn head (series_holds s.series.value), series-few s.series.value, sum_by-cons most_of (master_in s.series.value) [])
 
 abbrev sources_in : {X : Type 0} → (X → Part) → List X → List Source
 sources_in part xs = flat_map (λ x. part_sources (part x)) xs
@@ -179,7 +179,7 @@ series-most s coming most near bound = by s.rule_starts s.own_rule (λ e m of. (
 -- Parts, of which one at most is of the events that start once, and the masters of the others have UIDs of their own.
 abbrev IsOfPart : Part → Entry → Type 0
 IsOfPart (Singles s) e = is_single e.event ≡ true
-IsOfPart (Series s) e = e.event ≡ s.value.event.now
+IsOfPart (Series s) e = e.event ≡ s.series.value.event.now
 
 not-single : (e : Entry) (event : Event) → e.event ≡ event → is_single e.event ≡ true → is_single event ≡ false → ⊥
 not-single e event p s r = let no : true ≡ false = sym s ∙ (ap is_single p ∙ r) in absurd cc
@@ -199,10 +199,10 @@ AreOwn sources = AllByRecursion (λ m. is_single m.event ≡ false) (recurring s
 
 both-near : (e : Entry) (p q : Part) (more : List Source) → AreOwn (part_sources p ++ (part_sources q ++ more)) → AreBoth e p q
 both-near e (Singles s) (Singles t) more own a b = (a, b)
-both-near e (Singles s) (Series t) more own a b = absurd (not-single e t.value.event.now b a own.0.0)
-both-near e (Series s) (Singles t) more own a b = absurd (not-single e s.value.event.now a b own.0.0)
+both-near e (Singles s) (Series t) more own a b = absurd (not-single e t.series.value.event.now b a own.0.0)
+both-near e (Series s) (Singles t) more own a b = absurd (not-single e s.series.value.event.now a b own.0.0)
 both-near e (Series s) (Series t) more own a b =
-    let uid = s.value.event.now.uid in
+    let uid = s.series.value.event.now.uid in
     absurd (not-less-itself (slice_cmp nat_cmp) nat_list_cmp_total uid (ap (λ (v : Event). slice_cmp nat_cmp uid v.uid) (sym a ∙ b) ∙ own.1.0.0))
 
 own-rest : (p : Part) (more : List Source) → AreOwn (part_sources p ++ more) → AreOwn more
@@ -260,8 +260,8 @@ module _ {X : Type 0} (part : X → Part) (lists : X → List Entry) where
             → part_looked p + sum_by (λ y. part_looked (part y)) xs ≤ sum_by most (recurring (part_sources p ++ sources_in part xs))
         by (Singles s) near bound rest = omega (arith, rest bound)
         by (Series s) near bound rest =
-            let own = series-most s.value coming (most (master_in s.value)) near bound.0 in
-            omega (arith, own, sum_by-cons most (master_in s.value) (recurring (sources_in part xs)), rest bound.1)
+            let own = series-most s.series.value coming (most (master_in s.series.value)) near bound.0 in
+            omega (arith, own, sum_by-cons most (master_in s.series.value) (recurring (sources_in part xs)), rest bound.1)
 
   -- Parts have together looked at no more periods than each of their masters may.
   pub steps-of-leads : (most : Recurring → ℕ) (xs : List X) → AreApart (sources_in part xs) → AllNear xs →

@@ -5,8 +5,9 @@ use Rattle.std.specs.List.{flat_map, AllByRecursion}
 use Rattle.std.proofs.Math.Logic.{∥∥₁_elim}
 use Rattle.ics_file.specs.File.{FileSaid}
 use Rattle.ics_event.specs.declared.event.Event.{Event}
-use Rattle.ics_listing.specs.FeedSources.{Source}
+use Rattle.ics_listing.specs.FeedSources.{Recurring, Source}
 use Rattle.ics_listing.specs.FileClocks.{Clock}
+use Rattle.ics_listing.proofs.ListingLemmas.{all-as}
 use Rattle.ics_starts.specs.KeptLocals.{IsKeptOf}
 use Rattle.ics_starts.specs.SeriesLaws.{event-set}
 use Rattle.ics_starts.specs.declared.kept_locals.KeptLocals.{KeptLocals}
@@ -26,6 +27,20 @@ pub all-last : {X : Type 0} (xs : List X) (x : X) (P : X → Type 0) → AllByRe
 all-last [] x P all = (tt, all.0)
 all-last (y ∷ xs) x P all = let rest = all-last xs x P all.1 in ((all.0, rest.0), rest.1)
 
+-- what is known of each master of feeds, of each feed
+module _ (IsKnown : Recurring → Type 0) where
+  of-first : (p : Part) (rest : List Source) → AllByRecursion IsKnown (recurring (part_sources p ++ rest))
+      → AllByRecursion IsKnown (recurring (part_sources p)) × AllByRecursion IsKnown (recurring rest)
+  of-first (Singles s) rest all = (tt, all)
+  of-first (Series s) rest all = ((all.0, tt), all.1)
+
+  pub each-of : {L : Type 0} (feed : L → Part) (leads : List L) → AllByRecursion IsKnown (recurring (flat_map (λ l. part_sources (feed l)) leads))
+      → AllByRecursion (λ l. AllByRecursion IsKnown (recurring (part_sources (feed l)))) leads
+  each-of feed [] all = tt
+  each-of feed (l ∷ leads) all =
+      let both = of-first (feed l) (flat_map (λ l. part_sources (feed l)) leads) all in
+      (both.0, each-of feed leads both.1)
+
 module _ (files : List FileSaid) (display : Clock) where
   abbrev sub : List ℕ → SubjectSeen
   sub uid = record { uid = uid; recurrence = None }
@@ -41,19 +56,17 @@ module _ (files : List FileSaid) (display : Clock) where
       let same = one-master h.0 by h.1 is (sym (ap (λ (v : Event). v.uid) h.2) ∙ (uid ∙ sym (ap (λ (v : Event). v.uid) e))) in
       h.2 ∙ (ap (λ (p : Placed). p.event) same ∙ e))
 
-  part-of : (p : Part) (rest : List Source) → AllByRecursion (IsOfFolder files display) (recurring (part_sources p ++ rest))
-      → IsPartOf files display p × AllByRecursion (IsOfFolder files display) (recurring rest)
-  part-of (Singles s) rest all = (tt, all)
-  part-of (Series s) rest all = (∣ (all.0.by, all.0.is, ap (λ m. m.event) all.0.same) ∣₁, all.1)
+  part-of : (p : Part) → AllByRecursion (IsOfFolder files display) (recurring (part_sources p)) → IsPartOf files display p
+  part-of (Singles s) all = tt
+  part-of (Series s) all = ∣ (all.0.by, all.0.is, ap (λ m. m.event) all.0.same) ∣₁
 
   -- the feeds of a day's agenda are parts of masters
   pub parts-of : {L : Type 0} (feed : L → Part) (leads : List L)
       → AllByRecursion (IsOfFolder files display) (recurring (flat_map (λ l. part_sources (feed l)) leads))
       → AllByRecursion (λ l. IsPartOf files display (feed l)) leads
-  parts-of feed [] all = tt
-  parts-of feed (l ∷ leads) all =
-      let both = part-of (feed l) (flat_map (λ l. part_sources (feed l)) leads) all in
-      (both.0, parts-of feed leads both.1)
+  parts-of feed leads all =
+      all-as (λ l. AllByRecursion (IsOfFolder files display) (recurring (part_sources (feed l)))) (λ l. IsPartOf files display (feed l)) leads
+      (λ l. part-of (feed l)) (each-of (IsOfFolder files display) feed leads all)
 
   -- what a series that ended gives back
   pub kept-of-series : (event : Event) (kept : Option (Box KeptLocals)) → IsEventOfMaster files display event → IsKeptOf event kept

@@ -4,9 +4,9 @@ pub mod BeginningLemmas
 pub mod GapLemmas
 pub mod HoldingLaws
 pub mod MarkLemmas
-pub mod NearPlaceLemmas
 pub mod OccursLemmas
 pub mod OnDayLemmas
+pub mod OverLemmas
 pub mod OverrideLemmas
 pub mod ReachLemmas
 pub mod RecurringLemmas

@@ -8,12 +8,12 @@ use Rattle.ics_listing.specs.FileClocks.{Clock}
 use Rattle.ics_listing.specs.Listing.{IsIn}
 use Rattle.ics_listing.specs.declared.window.Window.{Window}
 use Rattle.ics_listing.proofs.ListingLemmas.{get-in}
-use Rattle.ics_series.specs.Inner.HasPlaces.{count_of, HasPlaces, HasPlacesAfter}
-use Rattle.ics_series.specs.Inner.NearPlaces.{AreBelow, AreNear, AreReached, AreSameBut}
-use Rattle.ics_series.specs.Inner.Spans.{always, can_meet, is_out, is_out_of}
+use Rattle.ics_days.specs.HasPlaces.{count_of, HasPlaces, HasPlacesAfter}
+use Rattle.ics_days.specs.NearPlaces.{AreBelow, AreNear, AreReached, AreSameBut}
+use Rattle.ics_days.specs.Spans.{always, can_meet, is_out, is_out_of}
 use Rattle.ics_days.specs.NearDays.{IsNearDay}
-use Rattle.ics_series.specs.declared.near_places.NearPlaces.{NearPlaces}
-use Rattle.ics_series.specs.declared.span.Span.{Span}
+use Rattle.ics_days.specs.declared.near_places.NearPlaces.{NearPlaces}
+use Rattle.ics_days.specs.declared.span.Span.{Span}
 use Rattle.ics_zone.proofs.Cases.{less_or_not_z}
 use Rattle.ics_zone.specs.declared.bounds.Bounds.{Bounds}
 

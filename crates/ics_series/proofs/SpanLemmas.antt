@@ -18,7 +18,7 @@ use Rattle.ics_zone.specs.declared.bounds.Bounds.{Bounds}
 use Rattle.ics_starts.specs.Clocks.{instant}
 use Rattle.ics_days.specs.NearDays.{first_near, last_near, HasOffsets, IsNearDay}
 use Rattle.ics_starts.specs.declared.series.Series.{Series}
-use Rattle.ics_series.specs.declared.span.Span.{Span}
+use Rattle.ics_days.specs.declared.span.Span.{Span}
 use Rattle.ics_series.specs.declared.version.Version.{Version}
 use Rattle.ics_listing.specs.declared.window.Window.{Window}
 use Rattle.ics_series.specs.Chosen.{overridden, subject_of, IsChosen}
@@ -38,7 +38,8 @@ use Rattle.ics_listing.specs.Rising.{Rises}
 use Rattle.ics_starts.specs.SingleEvents.{begun_first, entry_first, is_single}
 use Rattle.ics_series.specs.Singles.{single_at, single_of}
 use Rattle.ics_series.specs.Inner.SpanLaws.{AreThoseChosen}
-use Rattle.ics_series.specs.Inner.Spans.{always, can_meet, first_at, first_in, is_out, is_out_of, span_at, span_by, span_of, span_once, IsKeptFrom}
+use Rattle.ics_days.specs.Spans.{always, can_meet, first_at, first_in, is_out, is_out_of}
+use Rattle.ics_series.specs.Inner.Spans.{span_at, span_by, span_of, span_once, IsKeptFrom}
 use Rattle.ics_series.specs.Inner.Spans.{floor_of, AreMovedOn, AreSpans, AreSpansAfter, IsLater, IsMovedOn, IsRest, IsSpanOf, IsStartedBy, NoneMeets}
 use Rattle.ics_listing.specs.After.{is_after}
 use Rattle.ics_listing.specs.WindowBounds.{occurrence_first}
@@ -302,10 +303,51 @@ come-first files display w labels spans are k there after above o v low =
     (record { started = above o v.later; kept = v.kept }) low
 
 -- what begins at the floor or later, and with the span or later, does so from the instant on with which a series begins
-low-start : (since first : ℤ) (floor : Option ℤ) → since ≤ℤ int_max (unwrap_or floor always.first) first → (o : Entry) → IsStartedBy floor o
+pub low-start : (since first : ℤ) (floor : Option ℤ) → since ≤ℤ int_max (unwrap_or floor always.first) first → (o : Entry) → IsStartedBy floor o
     → first ≤ℤ o.start → occurrence_first ≤ℤ o.start → since ≤ℤ o.start
 low-start since first None low o started begun early = omega (arith, ints, low, begun, early, int_max_is always.first first)
 low-start since first (Some floor) low o started begun early = omega (arith, ints, low, begun, started, int_max_is floor first)
+
+-- what meets a later window and begins before the window's end meets the window
+pub meets-before : (w n : Window) → IsLater w n → (o : Entry) → Meets n o → o.start <ℤ w.to → Meets w o
+meets-before w n later o m begun = record {
+  begun = begun;
+  lasting = ⊎_elim (λ a. inl (omega (arith, ints, a, later.from))) (λ b. inr (b.0, omega (arith, ints, b.1, later.from))) m.lasting;
+  started = λ t. let from = m.started (subst IsTrue later.same t) in omega (arith, ints, from, later.from);
+}
+
+-- The span of a master from a window's end on, where no occurrence that meets another window begins before that end.
+module _ (clocks : Clocks) (event : Event) (recurs : is_single event ≡ false) (w n : Window) (IsAsked : Entry → Type 0) {since : ℤ} {s : Span}
+    (rest : IsRest clocks event w since s)
+    (from : (o : Entry) → IsOf clocks event o → Meets n o → IsAsked o → occurrence_first ≤ℤ o.start → since ≤ℤ o.start)
+    (early : (o : Entry) → IsOf clocks event o → Meets n o → IsAsked o → o.start <ℤ w.to → ⊥) where
+  -- one from that end on does not begin before the span
+  late : (o : Entry) → IsOf clocks event o → Meets n o → IsAsked o → w.to ≤ℤ o.start → s.first ≤ℤ o.start
+  late o of meets asked end = rest.first o of end (from o of meets asked (omega (arith, ints, w.not_early, w.ordered, end)))
+
+  pub rest-span : IsSpanOf clocks event n IsAsked s
+  rest-span = record {
+    none = λ out. record {
+      once = λ single. let no : true ≡ false = sym single ∙ recurs in absurd cc;
+      each = λ recurs o of meets asked. elim (less_or_not_z o.start w.to) [
+        | inl begun ↦ early o of meets asked begun
+        | inr end ↦ absurd (
+            let first = late o of meets asked end in
+            let start = meets.begun in
+            let most : n.to ≤ℤ s.first = elim (less_or_not_z s.first n.to) [
+              | inl less ↦ absurd (
+                  let yes = both-true n n (omega (arith, ints)) s less (omega (arith, ints, rest.last, n.ordered, n.not_late)) in
+                  let no : true ≡ false = sym yes ∙ out in cc)
+              | inr most ↦ most
+            ] in
+            omega (arith, ints, first, start, most))
+      ];
+    };
+    first = λ recurs o of meets asked enough. elim (less_or_not_z o.start w.to) [
+      | inl begun ↦ absurd (early o of meets asked begun)
+      | inr end ↦ late o of meets asked end
+    ];
+  }
 
 -- Spans that are moved on.
 module _ (files : List FileSaid) (display : Clock) (w : Window) (floor : Option ℤ) (labels : List Label) where
@@ -316,52 +358,24 @@ module _ (files : List FileSaid) (display : Clock) (w : Window) (floor : Option 
         → ((o : Entry) → IsOfVersion files display w after l o → ⊥) → IsRest (clocks_at files display l.spot.file) r.event w since s
         → (n : Window) → IsLater w n → AreSpans files display n floor labels old
         → IsSpanOf (clocks_at files display l.spot.file) r.event n (IsKeptFrom files display floor) s
-    none-later old {s = s} low none rest n later are = record {
-      none = λ out. record {
-        once = λ single. let no : true ≡ false = sym single ∙ r.recurs in absurd cc;
-        each = λ recurs o of meets started. elim (less_or_not_z o.start w.to) [
-          | inl begun ↦ early o of meets started begun
-          | inr end ↦ absurd (
-              let first = late o of meets started end in
-              let start = meets.begun in
-              let most : n.to ≤ℤ s.first = elim (less_or_not_z s.first n.to) [
-                | inl less ↦ absurd (
-                    let yes = both-true n n (omega (arith, ints)) s less (omega (arith, ints, rest.last, n.ordered, n.not_late)) in
-                    let no : true ≡ false = sym yes ∙ out in cc)
-                | inr most ↦ most
-              ] in
-              omega (arith, ints, first, start, most))
-        ];
-      };
-      first = λ recurs o of meets started enough. elim (less_or_not_z o.start w.to) [
-        | inl begun ↦ absurd (early o of meets started begun)
-        | inr end ↦ late o of meets started end
-      ];
-    }
+    none-later old low none rest n later are =
+        rest-span (clocks_at files display l.spot.file) r.event r.recurs w n (IsKeptFrom files display floor) rest from
+        -- none begins before the window's end, since it would meet the window
+        (λ o of meets asked begun.
+        let come = behind r o of begun in
+        none o (record {
+          by = r;
+          of = of;
+          meets = meets-before w n later o meets begun;
+          later = come.1 (from o of meets asked come.0);
+          kept = asked.kept;
+        }))
       where
-        here : (o : Entry) → Meets n o → o.start <ℤ w.to → Meets w o
-        here o m begun = record {
-          begun = begun;
-          lasting = ⊎_elim (λ a. inl (omega (arith, ints, a, later.from))) (λ b. inr (b.0, omega (arith, ints, b.1, later.from))) m.lasting;
-          started = λ t. let from = m.started (subst IsTrue later.same t) in omega (arith, ints, from, later.from);
-        }
-
         from : (o : Entry) → IsOf (clocks_at files display l.spot.file) r.event o → Meets n o → IsKeptFrom files display floor o
             → occurrence_first ≤ℤ o.start → since ≤ℤ o.start
         from o of meets started enough =
             let begun = from-first files display n labels old are k there r.event r.stands r.recurs o of meets started enough in
             low-start since (first_at old k) floor low o started.started begun enough
-
-        -- none begins before the window's end, since it would meet the window
-        early : (o : Entry) → IsOf (clocks_at files display l.spot.file) r.event o → Meets n o → IsKeptFrom files display floor o → o.start <ℤ w.to → ⊥
-        early o of meets started begun =
-            let come = behind r o of begun in
-            none o (record { by = r; of = of; meets = here o meets begun; later = come.1 (from o of meets started come.0); kept = started.kept })
-
-        -- nor one from there on before the span
-        late : (o : Entry) → IsOf (clocks_at files display l.spot.file) r.event o → Meets n o → IsKeptFrom files display floor o → w.to ≤ℤ o.start
-            → s.first ≤ℤ o.start
-        late o of meets started end = rest.first o of end (from o of meets started (omega (arith, ints, w.not_early, w.ordered, end)))
 
     moved-at : {coming : List Entry} {old new : List Span} → IsListing entry_cmp (IsOfVersion files display w after l) coming
         → IsMovedOn (clocks_at files display l.spot.file) r.event w since floor coming old k new → AreMovedOn files display w floor labels old new

@@ -42,7 +42,7 @@ master-in [] ms i a e n = absurd n
 master-in (p ∷ ps) (m ∷ ms) (suc i) a e n =
     let k = master-in ps ms i a (rest-sources p e) n in record { master = k.master; stands = k.stands; event = k.event }
 master-in (Series s ∷ ps) (m ∷ ms) zero a e n =
-    let s = s.value in record {
+    let s = s.series.value in record {
       master = m;
       stands = refl;
       event = given-own (clocks_in s.zones) s.window s.event.now s.since s.replaced.instants.items (series_left s) a n

@@ -13,18 +13,18 @@ use Rattle.ics_listing.specs.FeedSources.Source.{Once}
 -- what is still to come of a part
 abbrev pub part_coming : Part → List Entry
 part_coming (Singles s) = map single_entry (into_iter_items s.rest)
-part_coming (Series s) = series_of s.value (series_left s.value)
+part_coming (Series s) = series_of s.series.value (series_left s.series.value)
 
 -- what its occurrences belong to
 abbrev pub part_sources : Part → List Source
 part_sources (Singles s) = Once ∷ []
-part_sources (Series s) = series_sources s.value
+part_sources (Series s) = series_sources s.series.value
 
 -- an occurrence belongs to that, and no rule has been read further than it needs
 abbrev pub part_near : Part → Entry → Type 0
 part_near (Singles s) o = is_single o.event ≡ true
-part_near (Series s) o = series_near s.value o
+part_near (Series s) o = series_near s.series.value o
 
 pub part_near-prop : (p : Part) (o : Entry) → IsProp (part_near p o)
 part_near-prop (Singles s) o = single-prop o
-part_near-prop (Series s) o = series_near-prop s.value o
+part_near-prop (Series s) o = series_near-prop s.series.value o

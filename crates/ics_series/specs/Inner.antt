@@ -1,10 +1,9 @@
 -- Words of private contracts and of proofs: no public clause reaches them.
 pub mod Beginnings
-pub mod HasPlaces
+pub mod Ended
 pub mod Kept
 pub mod Marks
 pub mod Masters
-pub mod NearPlaces
 pub mod SpanLaws
 pub mod Spans
 pub mod Whole

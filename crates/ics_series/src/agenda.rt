@@ -22,17 +22,16 @@ ghost use Rattle.ics_series.specs.Sources.{master_of, recurring, AreApart, AreAp
 ghost use Rattle.ics_listing.specs.FeedSources.{Recurring};
 ghost use Rattle.ics_series.specs.Steps.{HasStepBound};
 ghost use Rattle.ics_listing.specs.Tokens.{IsKey};
-ghost use Rattle.ics_series.specs.Inner.NearPlaces.{AreNear, AreSameBut};
+ghost use Rattle.ics_days.specs.NearPlaces.{AreNear, AreSameBut};
 ghost use Rattle.ics_series.specs.Inner.Spans.{AreMovedOn, AreSpans, IsStartedBy};
 ghost use Rattle.ics_series.specs.Versions.{is_override, seen, subject_cmp, subject_seen, AreChosen};
 
 use crate::chosen::{chosen, is_named, overrides};
 use crate::masters::push_series;
-use crate::near_places::all_places;
 use crate::part::Part;
 use crate::singles::Singles;
-use crate::span::Span;
 use crate::version::{Subject, Version};
+use ics_days::{Span, all_places};
 use ics_file::FileEvents;
 use ics_listing::{Coming, Feed, Key, Lead, Merge, Occurrence, Window};
 use ics_starts::{KeptLocals, Mark};
@@ -47,6 +46,8 @@ use std::alloc::{AllocError, Global};
 #[derive(Drop)]
 pub struct Agenda<'a> {
     merge: Merge<'a, Part<'a>>,
+    // Whether a master that recurs was searched for it.
+    recurs: bool,
     ghost apart: { AreApart (merge_all part_sources merge) } by { AreApart-prop (merge_all part_sources merge) },
 }
 
@@ -128,8 +129,9 @@ impl<'a> Agenda<'a> {
             alloc, &mut parts, files, display, chosen, near, spans, marks, kept, window, after,
             floor,
         )?;
+        let recurs = parts.len() > 1;
         let merge = Merge::of_sorted(alloc, parts, 1, window.from)?;
-        Ok(Agenda { merge })
+        Ok(Agenda { merge, recurs })
     }
 
     /// An agenda with nothing to come.
@@ -138,7 +140,15 @@ impl<'a> Agenda<'a> {
         ensures sources { IfOk result (λ agenda. ⟦<Agenda<'a> as Coming>⟧.sources agenda ≡ []) }
     {
         let merge = Merge::new(alloc, Vec::new(alloc))?;
-        Ok(Agenda { merge })
+        Ok(Agenda {
+            merge,
+            recurs: false,
+        })
+    }
+
+    /// Whether a master that recurs was searched for it.
+    pub(crate) fn recurs(&self) -> bool {
+        self.recurs
     }
 
     /// Drops what is still to come, and gives back the feeds that it was searched by. It allocates nothing.

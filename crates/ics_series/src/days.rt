@@ -1,5 +1,5 @@
 //! The listing of a window under each day.
-ghost use Rattle.std.specs.Prelude.{◌≡◌, ◌⊎◌, ◌≤◌, ◌+◌, ◌-◌, ◌^◌, ◌≤ℤ◌, ◌<ℤ◌, ◌-ℤ◌, ℕ, ℤ, pos, false, true, length, min};
+ghost use Rattle.std.specs.Prelude.{◌≡◌, ◌⊎◌, ◌≤◌, ◌+◌, ◌-◌, ◌^◌, ◌≤ℤ◌, ◌<ℤ◌, ◌+ℤ◌, ◌-ℤ◌, ℕ, ℤ, pos, false, true, length, min};
 ghost use Rattle.std.specs.Prelude.{List, [], filter, map, IfOk, IfSome, OnErr, OnOk, None};
 ghost use Rattle.std.specs.Prelude.{int_lt};
 ghost use Rattle.std.specs.Option.{option_map};
@@ -15,32 +15,40 @@ ghost use Rattle.ics_series.specs.DaySteps.{agenda_holds, agenda_looked, agenda_
 ghost use Rattle.ics_series.specs.DaySteps.{AreMasters, IsNearAgenda, IsPastAgenda, day_of_key, HasDaysBound, IsLookedBefore};
 ghost use Rattle.ics_days.specs.NearDays.{first_near, last_near, HasOffsets, IsNearDay};
 ghost use Rattle.ics_days.specs.Offsets.{AreOffsets};
-ghost use Rattle.ics_listing.specs.Entry.{key_rank, Entry};
+ghost use Rattle.ics_listing.specs.Entry.{entry_of, key_rank, Entry};
+ghost use Rattle.ics_fields.specs.Locals.{midnight};
+ghost use Rattle.ics_starts.specs.SingleEvents.{is_single};
+ghost use Rattle.ics_zone.specs.Seconds.{IsDay};
 ghost use Rattle.ics_series.specs.HeldMost.{held_most};
 ghost use Rattle.ics_listing.specs.Listing.{IsIn, IsListing};
+ghost use Rattle.ics_listing.specs.Merges.{merge_coming};
+ghost use Rattle.ics_series.specs.AgendaParts.{part_coming};
+ghost use Rattle.ics_series.specs.Inner.Ended.{end_of, have-ended-prop, HaveEnded};
 ghost use Rattle.ics_series.specs.Inner.Kept.{kept-prop, AreKept};
 ghost use Rattle.ics_series.specs.Inner.Marks.{marks-prop, AreMarks};
 ghost use Rattle.ics_starts.specs.MeetsWindow.{Meets};
 ghost use Rattle.ics_series.specs.PlacedEvents.{Placed};
-ghost use Rattle.ics_series.specs.Inner.HasPlaces.{count_of, places-prop, HasPlaces, HasPlacesAfter};
+ghost use Rattle.ics_days.specs.HasPlaces.{count_of, places-prop, HasPlaces, HasPlacesAfter};
 ghost use Rattle.ics_series.specs.Inner.SpanLaws.{labels-set, offsets-prop, spans-after-prop, those-chosen-prop, AreThoseChosen};
-ghost use Rattle.ics_series.specs.Inner.Spans.{can_meet, floor_of, span_at, AreSpansAfter, IsStartedBy};
+ghost use Rattle.ics_days.specs.Spans.{always, can_meet};
+ghost use Rattle.ics_series.specs.Inner.Spans.{floor_of, span_at, AreSpansAfter, IsStartedBy};
 ghost use Rattle.ics_listing.specs.Tokens.{IsDayKey};
 ghost use Rattle.ics_series.specs.Versions.{is_override, seen, AreChosen};
-ghost use Rattle.ics_series.specs.declared.span.Span.{Span};
+ghost use Rattle.ics_days.specs.declared.span.Span.{Span};
 ghost use Rattle.ics_listing.specs.declared.window.Window.{Window};
 
 use crate::agenda::Agenda;
 use crate::chosen::{chosen, overrides};
 use crate::kept::{add_kept, give_back};
 use crate::marks::add_places;
-use crate::near_places::NearPlaces;
-use crate::span::{Span, spans};
+use crate::span::spans;
 use crate::version::Version;
-use ics_days::{bounds_in, date_at, first_shown, is_today, last_near, last_shown, near_day};
+use ics_days::{
+    NearPlaces, Span, bounds_in, date_at, first_shown, is_today, last_near, last_shown, near_day,
+};
 use ics_file::FileEvents;
 use ics_listing::{DayKey, Feed, Key, Occurrence, Window};
-use ics_starts::{KeptLocals, Mark};
+use ics_starts::{KeptLocals, Mark, is_single};
 use ics_values::{Local, Moment};
 use ics_zone::{Bounds, Display};
 use std::alloc::{AllocError, Global};
@@ -102,6 +110,9 @@ pub struct Days<'a> {
     ghost shown: { (t : ℤ) → window.from ≤ℤ t → t <ℤ window.to → date_at (display_clock display.now) t ≤ℤ last },
     ghost within: { last ≤ℤ last_near window bounds },
     ghost below: { floor.start ≡ window.from -ℤ pos 1 },
+    ghost ended: { HaveEnded (map said_by files.now) (display_clock display.now) (merge_coming part_coming today.agenda.merge) today.lasts
+        (agenda_sources today.agenda) } by { have-ended-prop (map said_by files.now) (display_clock display.now)
+            (merge_coming part_coming today.agenda.merge) today.lasts (agenda_sources today.agenda) },
 }
 
 // A day of a listing.
@@ -112,6 +123,8 @@ struct Today<'a> {
     agenda: Agenda<'a>,
     // How many periods of rules were looked at for the days before and, once the agenda was dropped, for this one.
     looked: u64,
+    // The greatest end of what recurs and was given of it, or the last instant of all where that is not known or not asked.
+    lasts: Moment,
 }
 
 impl<'a> Days<'a> {
@@ -151,6 +164,7 @@ impl<'a> Days<'a> {
             alloc, files, display, &versions, &overrides, &mut near, &mut spans, &mut marks,
             &mut kept, &window, bounds, day, key,
         )?;
+        let lasts = none_given(key, agenda.recurs());
         Ok(Days {
             alloc,
             files,
@@ -170,6 +184,7 @@ impl<'a> Days<'a> {
                 day,
                 agenda,
                 looked: 0,
+                lasts,
             },
         })
     }
@@ -293,6 +308,7 @@ impl<'a> Days<'a> {
         ensures err { (list : List OnDay) → IsAhead self.old list → OnErr result (IsAhead self.new list) }
     {
         while let Some(occurrence) = self.today.agenda.next()? {
+            self.today.lasts = later_end(self.today.lasts, &occurrence);
             let today = is_today(
                 self.display,
                 &self.window,
@@ -323,8 +339,17 @@ impl<'a> Days<'a> {
     {
         let looked = self.today.looked.saturating_add(self.today.agenda.steps());
         self.today.looked = looked;
+        let over = self.today.lasts <= begin_after(self.bounds, self.today.day);
         let leads = self.today.agenda.end(self.alloc);
-        give_back(&mut self.kept, leads);
+        let places = &self.places;
+        give_back(
+            &mut self.kept,
+            &self.versions,
+            &places.near,
+            &mut self.spans,
+            leads,
+            over,
+        );
     }
 
     /// Goes on to the next day on which something can be. What was looked at for the day is counted.
@@ -363,8 +388,10 @@ impl<'a> Days<'a> {
             key,
             floor_of(&self.window),
         )?;
+        let lasts = none_given(key, agenda.recurs());
         self.today.day = day;
         self.today.agenda = agenda;
+        self.today.lasts = lasts;
         Ok(())
     }
 }
@@ -389,10 +416,46 @@ fn next_day(
         → IsNearDay clock window.now bounds x n → can_meet s n ≡ false }
 {
     let next = day + 1;
-    let from = i64::from(next) * DAY - bounds.most;
+    let from = begin_after(bounds, day);
     let first = places.first(spans, window.to, from).max(window.from);
     let reached = Local::of_seconds(first + bounds.least).day;
     reached.max(next).min(last)
+}
+
+/// The least instant with which what the window holds near a later day can begin.
+fn begin_after(bounds: Bounds, day: i32) -> Moment
+    requires offsets { AreOffsets bounds }
+    requires day { IsDay day }
+    ensures { result ≡ midnight (day +ℤ pos 1) -ℤ bounds.most }
+{
+    let next = day + 1;
+    i64::from(next) * DAY - bounds.most
+}
+
+/// What stands for the greatest end of what recurs and was given behind a key, before anything was given: the last instant of all with
+/// a key, or where nothing recurs.
+fn none_given(key: Option<&Key>, recurs: bool) -> Moment
+    ensures { result <ℤ always.last → option_map (λ key. key_rank key.now) key.entry ≡ None }
+{
+    match key {
+        None if recurs => Moment::MIN,
+        _ => Moment::MAX,
+    }
+}
+
+/// The later of an instant and of the first from which on an occurrence meets no window, if its event recurs. There is none later than the last of all.
+fn later_end(lasts: Moment, occurrence: &Occurrence<'_>) -> Moment
+    ensures least { lasts ≤ℤ result }
+    ensures end { result <ℤ always.last → is_single occurrence.now.event.now ≡ false → end_of (entry_of occurrence.now) ≤ℤ result }
+{
+    if lasts == Moment::MAX {
+        return lasts;
+    }
+    if is_single(occurrence.event) {
+        return lasts;
+    }
+    let past = occurrence.start.saturating_add(1);
+    lasts.max(occurrence.finish).max(past)
 }
 
 /// The day with which a listing begins, and the key after which it does there.

@@ -1,14 +1,17 @@
 //! What is known of the rules of the versions that count, each at the place of its version.
-ghost use Rattle.std.specs.Prelude.{◌≡◌, List, Some};
+ghost use Rattle.std.specs.Prelude.{◌≡◌, true, List, Some};
 ghost use Rattle.std.specs.List.{AllByRecursion};
 ghost use Rattle.ics_file.specs.File.{FileSaid};
 ghost use Rattle.ics_listing.specs.FileClocks.{Clock};
 ghost use Rattle.ics_series.specs.Chosen.{IsMaster};
+ghost use Rattle.ics_series.specs.Inner.Ended.{AreMovedOff, IsOverPart};
 ghost use Rattle.ics_series.specs.Inner.Kept.{AreKept, IsKeptIn, IsPartOf};
 ghost use Rattle.ics_series.specs.PlacedEvents.{Placed};
 ghost use Rattle.ics_starts.specs.KeptLocals.{IsKeptOf};
 
 use crate::part::Part;
+use crate::version::Version;
+use ics_days::Span;
 use ics_event::Event;
 use ics_listing::Lead;
 use ics_starts::KeptLocals;
@@ -75,16 +78,27 @@ fn put_at<'a>(kept: &mut Vec<Option<Box<KeptLocals<'a>>>>, known: Box<KeptLocals
     }
 }
 
-/// Keeps what is known at the end of a day, each at its place.
+/// Keeps what is known at the end of a day, each at its place. Where nothing that was given lasts longer, the spans are moved on.
+#[tactic(auto, using(crate::proofs::OverLemmas::moved_none))]
 pub(crate) fn give_back<'a>(
     kept: &mut Vec<Option<Box<KeptLocals<'a>>>>,
+    versions: &[Version<'a>],
+    near: &[usize],
+    spans: &mut Vec<Span>,
     leads: Vec<Lead<'a, Part<'a>>>,
+    over: bool,
 )
-    ensures { (files : List FileSaid) (display : Clock) → AllByRecursion (λ l. IsPartOf files display l.feed) leads.entry.items
+    ensures kept { (files : List FileSaid) (display : Clock) → AllByRecursion (λ l. IsPartOf files display l.feed) leads.entry.items
         → AreKept files display kept.old.items → AreKept files display kept.new.items }
+    ensures spans { AreMovedOff versions.entry.now near.entry.now
+        (λ s day. over ≡ true → AllByRecursion (λ l. IsOverPart s day l.feed) leads.entry.items) spans.old.items spans.new.items }
 {
+    // The first is that of the events that start once, of which nothing is kept.
+    if leads.len() < 2 {
+        return;
+    }
     for lead in leads {
-        if let Some(known) = lead.into_feed().into_kept() {
+        if let Some(known) = lead.into_feed().end(versions, near, spans, over) {
             put_at(kept, known);
         }
     }

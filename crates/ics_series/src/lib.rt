@@ -10,7 +10,6 @@ mod kept;
 mod laws;
 mod marks;
 mod masters;
-mod near_places;
 mod part;
 mod prepare;
 mod singles;

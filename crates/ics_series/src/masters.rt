@@ -10,13 +10,14 @@ ghost use Rattle.ics_event.specs.declared.event.Event.{Event};
 ghost use Rattle.ics_starts.specs.Clocks.{display_clock};
 ghost use Rattle.ics_listing.specs.After.{is_after};
 ghost use Rattle.ics_listing.specs.Entry.{entry_cmp, key_rank, Entry};
-ghost use Rattle.ics_listing.specs.Listing.{IsListing};
+ghost use Rattle.ics_listing.specs.Listing.{IsIn, IsListing};
 ghost use Rattle.ics_listing.specs.Rising.{Rises};
 ghost use Rattle.ics_series.specs.Inner.Kept.{AreKept};
+ghost use Rattle.ics_series.specs.Inner.Ended.{AreMovedOff, IsMasterAt, IsOverPart};
 ghost use Rattle.ics_series.specs.Inner.Marks.{AreMarks};
 ghost use Rattle.ics_starts.specs.RuleMarks.{IsBegun, IsMarkOf};
 ghost use Rattle.ics_series.specs.Inner.Masters.{AreFrom, HasLists, HasSources, IsBehind, IsOfVersion, IsSince, IsSourceOf, Recurs, named_by};
-ghost use Rattle.ics_series.specs.Inner.NearPlaces.{AreNear, AreSameBut};
+ghost use Rattle.ics_days.specs.NearPlaces.{AreNear, AreSameBut};
 ghost use Rattle.ics_series.specs.AgendaParts.{part_coming, part_sources};
 ghost use Rattle.ics_starts.specs.SeriesFeed.{series_left, series_of, series_sources, IsSameSeries};
 ghost use Rattle.ics_starts.specs.SingleEvents.{is_single};
@@ -27,12 +28,14 @@ ghost use Rattle.ics_starts.specs.FileZones.{clocks_in};
 ghost use Rattle.ics_series.specs.Inner.Spans.{AreMovedOn, AreSpans, IsMovedOn, IsStartedBy};
 ghost use Rattle.ics_series.specs.Spots.{event_at};
 ghost use Rattle.ics_series.specs.Versions.{seen, subject_cmp, AreChosen};
+ghost use Rattle.ics_series.specs.declared.part.Part.TheVariants as part;
 
 use crate::kept::take_kept;
 use crate::marks::{mark_at, put_mark};
-use crate::part::Part;
-use crate::span::{Span, first_at, is_out, put_span};
+use crate::part::{Part, PlacedSeries};
+use crate::span::{is_out, put_span};
 use crate::version::Version;
+use ics_days::{Span, first_at};
 use ics_file::FileEvents;
 use ics_listing::{Coming, Key, Window};
 use ics_starts::{KeptLocals, Mark, Replaced, Series, is_single};
@@ -83,8 +86,9 @@ pub(crate) fn push_series<'a>(
         if is_out(spans, place, &window) {
             continue;
         }
+        let event = chosen[place].spot.event(files);
         // A series takes much room, which is cleared and moved where one may be made.
-        if is_single(chosen[place].spot.event(files)) {
+        if is_single(event) {
             continue;
         }
         let mark = mark_at(marks, place);
@@ -94,7 +98,13 @@ pub(crate) fn push_series<'a>(
         )? {
             let begun = series.mark();
             move_on(spans, place, floor, &mut series)?;
-            parts.push(Part::Series(Box::new(alloc, series)?))?;
+            let held = Box::new(alloc, series)?;
+            let placed = PlacedSeries {
+                place,
+                event,
+                series: held,
+            };
+            parts.push(Part::Series(placed))?;
             put_mark(marks, place, begun);
         }
     }
@@ -128,6 +138,53 @@ fn move_on(
     };
     put_span(spans, place, span);
     Ok(())
+}
+
+/// Moves on the span at the place of a series with nothing to come, if that is a near one of its version and the series does not begin later
+/// than the span. It is apart from the end of a day, on most of which nothing recurs.
+#[inline(never)]
+#[tactic(auto, using(crate::proofs::OverLemmas::moved_none))]
+pub(crate) fn move_off(
+    versions: &[Version<'_>],
+    near: &[usize],
+    spans: &mut Vec<Span>,
+    ended: &PlacedSeries<'_>,
+)
+    ensures { AreMovedOff versions.now near.now (λ s day. IsOverPart s day (part.Series ended.now)) spans.old.items spans.new.items }
+{
+    let place = ended.place;
+    if first_at(spans, place) < ended.series.since() {
+        return;
+    }
+    let event = ended.event;
+    if !is_master_at(versions, place, event.uid.as_slice()) {
+        return;
+    }
+    if !is_near(near, place) {
+        return;
+    }
+    let span = Span {
+        first: ended.series.quiet(),
+        last: Moment::MAX,
+    };
+    put_span(spans, place, span);
+}
+
+/// Whether a place is a near one.
+fn is_near(near: &[usize], place: usize) -> bool
+    ensures { result ≡ true → IsIn place near.now }
+{
+    near.binary_search(&place).is_ok()
+}
+
+/// Whether a place is that of the version of the master with a UID.
+fn is_master_at(versions: &[Version<'_>], place: usize, uid: &[u8]) -> bool
+    ensures { result ≡ true → IsMasterAt (map seen versions.now) place uid.now }
+{
+    match versions.get(place) {
+        None => false,
+        Some(version) => version.subject.recurrence.is_none() && version.subject.uid == uid,
+    }
 }
 
 /// The feed of the version at a place, if its event recurs. It begins at the instant `begin` or later, as all does

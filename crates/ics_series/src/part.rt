@@ -1,6 +1,12 @@
 //! The feeds that an agenda merges.
+ghost use Rattle.std.specs.Prelude.{◌≡◌};
+ghost use Rattle.ics_starts.specs.SeriesLaws.{event-set};
 
+use crate::masters::move_off;
 use crate::singles::Singles;
+use crate::version::Version;
+use ics_days::Span;
+use ics_event::Event;
 use ics_listing::{Begins, Coming, Feed, Holding, Occurrence};
 use ics_starts::{KeptLocals, Series};
 use ics_values::Moment;
@@ -11,22 +17,48 @@ use std::alloc::AllocError;
 #[derive(Drop)]
 pub(crate) enum Part<'a> {
     Singles(Singles<'a>),
-    Series(Box<Series<'a>>),
+    Series(PlacedSeries<'a>),
+}
+
+/// The feed of a master, with its event and the place of its version.
+#[derive(Drop)]
+pub(crate) struct PlacedSeries<'a> {
+    pub(crate) place: usize,
+    pub(crate) event: &'a Event,
+    pub(crate) series: Box<Series<'a>>,
+    ghost own: { series.value.event.now ≡ event.now } by { event-set series.value.event.now event.now },
 }
 
 impl<'a> Part<'a> {
-    ghost use Rattle.std.specs.Prelude.{List};
+    ghost use Rattle.std.specs.Prelude.{◌≡◌, true, List};
     ghost use Rattle.ics_file.specs.File.{FileSaid};
     ghost use Rattle.ics_listing.specs.FileClocks.{Clock};
+    ghost use Rattle.ics_series.specs.Inner.Ended.{AreMovedOff, IsOverPart};
     ghost use Rattle.ics_series.specs.Inner.Kept.{IsKeptIn, IsPartOf};
 
-    /// What is known of the rule that it was searched by, if that is kept.
-    pub(crate) fn into_kept(self) -> Option<Box<KeptLocals<'a>>>
-        ensures { (files : List FileSaid) (display : Clock) → IsPartOf files display self.entry → IsKeptIn files display result }
+    /// Ends it, with nothing to come. What is known of the rule that it was searched by is given back, if that is kept. Where
+    /// nothing that was given lasts longer, the span of a master is moved on.
+    #[tactic(auto, using(crate::proofs::OverLemmas::moved_none))]
+    pub(crate) fn end(
+        self,
+        versions: &[Version<'a>],
+        near: &[usize],
+        spans: &mut Vec<Span>,
+        over: bool,
+    ) -> Option<Box<KeptLocals<'a>>>
+        ensures kept { (files : List FileSaid) (display : Clock) → IsPartOf files display self.entry → IsKeptIn files display result }
+        ensures spans { AreMovedOff versions.entry.now near.entry.now (λ s day. over ≡ true → IsOverPart s day self.entry)
+            spans.old.items spans.new.items }
     {
         match self {
             Part::Singles(_) => None,
-            Part::Series(series) => Box::into_inner(series).into_kept(),
+            Part::Series(placed) => {
+                if over {
+                    move_off(versions, near, spans, &placed);
+                }
+                let PlacedSeries { series, .. } = placed;
+                Box::into_inner(series).into_kept()
+            }
         }
     }
 }
@@ -53,14 +85,14 @@ impl<'a> Holding for Part<'a> {
     fn held(&self) -> usize {
         match self {
             Part::Singles(_) => 0,
-            Part::Series(series) => series.held(),
+            Part::Series(placed) => placed.series.held(),
         }
     }
 
     fn steps(&self) -> u64 {
         match self {
             Part::Singles(_) => 0,
-            Part::Series(series) => series.steps(),
+            Part::Series(placed) => placed.series.steps(),
         }
     }
 }
@@ -69,7 +101,7 @@ impl<'a> Begins for Part<'a> {
     fn from(&self) -> Moment {
         match self {
             Part::Singles(singles) => singles.from(),
-            Part::Series(series) => series.from(),
+            Part::Series(placed) => placed.series.from(),
         }
     }
 }
@@ -77,12 +109,12 @@ impl<'a> Begins for Part<'a> {
 impl<'a> Feed<'a> for Part<'a> {
     ghost use Rattle.ics_series.specs.declared.part.Part.TheVariants as part;
 
-    ghost rises = { elim [ part.Singles s ↦ s.rising | part.Series s ↦ s.value.rising ] };
+    ghost rises = { elim [ part.Singles s ↦ s.rising | part.Series s ↦ s.series.value.rising ] };
 
     fn next(&mut self) -> Result<Option<Occurrence<'a>>, AllocError> {
         match self {
             Part::Singles(singles) => singles.next(),
-            Part::Series(series) => series.next(),
+            Part::Series(placed) => placed.series.next(),
         }
     }
 }

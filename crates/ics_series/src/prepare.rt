@@ -47,13 +47,16 @@ fn prepare_file(file: &mut FileEvents, window: &Window, every_day: bool)
     if file.zones.is_empty() {
         return;
     }
-    let any_lasts = note_through_each(file, window, every_day);
+    let mut any_lasts = note_through_each(file, window, every_day);
+    if every_day {
+        any_lasts |= note_dates_through(file, window);
+    }
     if any_lasts {
         learn_each(file);
     }
     prepare_named(file, window, every_day);
     if every_day {
-        reach_periods(file);
+        reach_dates(file, window);
     }
     if any_lasts {
         hold_through_each(file, window, every_day);
@@ -123,30 +126,101 @@ fn prepare_named(file: &mut FileEvents, window: &Window, every_day: bool)
     }
 }
 
-/// The zones of events hold the spans near their PERIODs: one that runs for many days is asked for again and again.
-fn reach_periods(file: &mut FileEvents)
+/// The zones of a file take note of the instants between which RDATEs last long in a window. Whether there are any.
+fn note_dates_through(file: &mut FileEvents, window: &Window) -> bool
+    ensures { file.new ≡ file.old }
+{
+    let mut any = false;
+    for k in 0..file.events.len() {
+        let event = &file.events[k];
+        any |= note_through_dates(&mut file.zones, event, window);
+    }
+    any
+}
+
+/// The same for the RDATEs of an event.
+fn note_through_dates(zones: &mut [Zone], event: &Event, window: &Window) -> bool
+    ensures { zones.new ≡ zones.old }
+{
+    let mut any = false;
+    for rdate in &event.rdates {
+        let Some(lasting) = lasting_date(event, *rdate, window) else {
+            continue;
+        };
+        let place = lasting.place.unwrap_or(usize::MAX);
+        if place < zones.len() {
+            let from = lasting.first.saturating_sub(LATE);
+            zones[place].note_through(from, lasting.last.saturating_add(LATE));
+            any = true;
+        }
+    }
+    any
+}
+
+/// The zones of a file hold the spans near RDATEs that last long: under each day one is asked for again and again.
+fn reach_dates(file: &mut FileEvents, window: &Window)
     ensures { file.new ≡ file.old }
 {
     for k in 0..file.events.len() {
         let event = &file.events[k];
-        let Some(index) = event.start.zone else {
-            continue;
-        };
-        if let Some(zone) = file.zones.get_mut(index as usize) {
-            reach_each(zone, &event.rdates);
+        reach_each(&mut file.zones, event, window);
+    }
+}
+
+/// The same near the RDATEs of an event. The zone of DTSTART is asked near their starts too.
+fn reach_each(zones: &mut [Zone], event: &Event, window: &Window)
+    ensures { zones.new ≡ zones.old }
+{
+    for rdate in &event.rdates {
+        if let Some(lasting) = lasting_date(event, *rdate, window) {
+            reach_at(zones, place_of(event.start), lasting.first);
+            reach_at(zones, lasting.place, lasting.first);
+            reach_at(zones, lasting.place, lasting.last);
         }
     }
 }
 
-/// A zone holds the spans near the PERIODs among these RDATEs.
-fn reach_each(zone: &mut Zone, rdates: &[Rdate])
-    ensures { zone.new ≡ zone.old }
+/// The zone at a place, if there is one, holds the spans near an instant.
+fn reach_at(zones: &mut [Zone], place: Option<usize>, near: Moment)
+    ensures { zones.new ≡ zones.old }
 {
-    for rdate in rdates {
-        if let Rdate::Span(start, _) = rdate {
-            zone.reach(local_of(start.stamp).seconds()).ok();
-        }
+    let place = place.unwrap_or(usize::MAX);
+    if place < zones.len() {
+        zones[place].reach(near).ok();
     }
+}
+
+/// An RDATE that lasts long: the place of its zone, if it has one, and about from when to when it is.
+#[derive(Clone, Copy)]
+struct LastingDate {
+    place: Option<usize>,
+    first: Moment,
+    last: Moment,
+}
+
+/// The place of the zone of a time, if it has one.
+fn place_of(time: Time) -> Option<usize> {
+    let index = time.zone?;
+    Some(index as usize)
+}
+
+/// An RDATE of an event, if it lasts long and can meet a window.
+fn lasting_date(event: &Event, rdate: Rdate, window: &Window) -> Option<LastingDate> {
+    let (start, lasting) = match rdate {
+        Rdate::At(start) => (start, lasting_of(event)),
+        Rdate::Span(start, length) => (start, lasting_by(start, length)),
+    };
+    let first = local_of(start.stamp).seconds();
+    let last = first.saturating_add(lasting);
+    let is_over = last.saturating_add(LATE) < window.from;
+    if lasting < LATE || is_over || window.to.saturating_add(LATE) < first {
+        return None;
+    }
+    Some(LastingDate {
+        place: place_of(start),
+        first,
+        last,
+    })
 }
 
 /// The zones of a file take note of the times that its events ask for again and again.
@@ -318,10 +392,15 @@ fn begun_before(event: &Event, window: &Window) -> Moment {
 
 /// How many seconds an event lasts about.
 fn lasting_of(event: &Event) -> i64 {
-    match event.length {
+    lasting_by(event.start, event.length)
+}
+
+/// How many seconds it is about from a start to where a length ends it.
+fn lasting_by(start: Time, length: Length) -> i64 {
+    match length {
         Length::Open => 0,
         Length::Until(end) => {
-            let first = local_of(event.start.stamp).seconds();
+            let first = local_of(start.stamp).seconds();
             local_of(end.stamp).seconds().saturating_sub(first).max(0)
         }
         Length::Lasting(length) => seconds_of(length),

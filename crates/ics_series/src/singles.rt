@@ -12,14 +12,15 @@ ghost use Rattle.ics_listing.specs.Listing.{IsListing};
 ghost use Rattle.ics_listing.specs.Rising.{Rises, Rises-prop};
 ghost use Rattle.ics_starts.specs.SingleEvents.{is_single, single_entry};
 ghost use Rattle.ics_series.specs.Singles.{is_to_come, single_at, AreSingle, AreSingle-prop, IsSingleToCome};
-ghost use Rattle.ics_series.specs.Inner.NearPlaces.{AreNear};
+ghost use Rattle.ics_days.specs.NearPlaces.{AreNear};
 ghost use Rattle.ics_series.specs.Inner.Spans.{AreSpans};
 ghost use Rattle.ics_series.specs.Spots.{event_at};
 ghost use Rattle.ics_series.specs.Versions.{is_override, seen, subject_cmp, subject_seen, AreChosen};
 
 use crate::agenda::is_kept;
-use crate::span::{Span, is_out};
+use crate::span::is_out;
 use crate::version::Version;
+use ics_days::Span;
 use ics_file::FileEvents;
 use ics_listing::{Begins, Coming, Feed, Key, Occurrence, Window, is_after};
 use ics_starts::{Single, is_single};

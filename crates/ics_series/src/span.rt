@@ -2,35 +2,19 @@
 ghost use Rattle.std.specs.Prelude.{◌≡◌, map, IfOk, IsSome};
 ghost use Rattle.ics_file.specs.File.{said_by};
 ghost use Rattle.ics_starts.specs.Clocks.{display_clock};
-ghost use Rattle.ics_series.specs.Inner.Spans.{can_meet, first_at, is_out, span_at, IsSpanPut};
+ghost use Rattle.ics_days.specs.Spans.{can_meet, first_at, is_out};
+ghost use Rattle.ics_series.specs.Inner.Spans.{span_at, IsSpanPut};
 ghost use Rattle.ics_series.specs.Spots.{event_at};
 ghost use Rattle.ics_series.specs.Versions.{seen, AreChosen};
 
 use crate::version::Version;
+use ics_days::Span;
 use ics_file::FileEvents;
 use ics_listing::Window;
 use ics_starts::{Single, is_single};
 use ics_values::Moment;
 use ics_zone::Display;
 use std::alloc::{AllocError, Global};
-
-/// From when to when an event is. One that recurs may be at any time, until it is known from when on it is.
-#[derive(Clone, Copy)]
-pub(crate) struct Span {
-    pub(crate) first: Moment,
-    pub(crate) last: Moment,
-}
-
-impl Span {
-    /// Whether what lies in it can meet a window.
-    pub(crate) fn can_meet(self, window: &Window) -> bool
-        ensures { result ≡ can_meet self window.now }
-    {
-        let begun = self.first < window.to;
-        let lasting = window.from <= self.last;
-        begun & lasting
-    }
-}
 
 /// The spans of versions, for windows that end no later than this one.
 pub(crate) fn spans(
@@ -95,15 +79,5 @@ pub(crate) fn is_out(spans: &[Span], place: usize, window: &Window) -> bool
     match spans.get(place) {
         None => false,
         Some(span) => !span.can_meet(window),
-    }
-}
-
-/// The instant with which the span at a place begins, if there is one there, and else the first of all.
-pub(crate) fn first_at(spans: &[Span], place: usize) -> Moment
-    ensures { result ≡ first_at spans.now place }
-{
-    match spans.get(place) {
-        None => Moment::MIN,
-        Some(span) => span.first,
     }
 }

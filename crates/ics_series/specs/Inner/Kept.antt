@@ -28,7 +28,7 @@ AreKept files display kept = AllByRecursion (IsKeptIn files display) kept
 -- a part that is that of a master, if it is a series
 abbrev pub IsPartOf : List FileSaid → Clock → Part → Type 0
 IsPartOf files display (Singles s) = Unit {0}
-IsPartOf files display (Series s) = IsEventOfMaster files display s.value.event.now
+IsPartOf files display (Series s) = IsEventOfMaster files display s.series.value.event.now
 
 kept-in-prop : (files : List FileSaid) (display : Clock) (kept : Option (Box KeptLocals)) → IsProp (IsKeptIn files display kept)
 kept-in-prop files display None = Unit-prop

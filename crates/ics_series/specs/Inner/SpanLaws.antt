@@ -4,7 +4,7 @@ use Rattle.std.specs.Coded.{Π_prop, codes}
 use Rattle.std.proofs.Props.{props}
 use Rattle.ics_file.specs.File.{FileSaid}
 use Rattle.ics_event.specs.declared.event.Event.{Event}
-use Rattle.ics_series.specs.declared.span.Span.{Span}
+use Rattle.ics_days.specs.declared.span.Span.{Span}
 use Rattle.ics_series.specs.declared.version.Version.{Version}
 use Rattle.ics_listing.specs.declared.window.Window.{Window}
 use Rattle.ics_series.specs.Chosen.{IsChosen}

@@ -7,7 +7,7 @@ use Rattle.std.specs.Option.{unwrap_or}
 use Rattle.ics_file.specs.File.{FileSaid}
 use Rattle.ics_event.specs.declared.event.Event.{Event}
 use Rattle.ics_values.specs.declared.time.Rdate.TheVariants.{At}
-use Rattle.ics_series.specs.declared.span.Span.{Span}
+use Rattle.ics_days.specs.declared.span.Span.{Span}
 use Rattle.ics_listing.specs.declared.window.Window.{Window}
 use Rattle.ics_listing.specs.FileClocks.{Clock, Clocks}
 use Rattle.ics_starts.specs.Clocks.{instant}
@@ -18,6 +18,7 @@ use Rattle.ics_listing.specs.WindowBounds.{occurrence_first}
 use Rattle.ics_listing.specs.WindowMeeting.{is_met}
 use Rattle.ics_starts.specs.MeetsWindow.{Meets}
 use Rattle.ics_starts.specs.Instances.{IsOf}
+use Rattle.ics_days.specs.Spans.{always, can_meet, first_at}
 use Rattle.ics_days.specs.NearDays.{IsNearDay}
 use Rattle.ics_series.specs.Inner.Masters.{IsUnreplaced}
 use Rattle.ics_series.specs.PlacedEvents.{clocks_at}
@@ -25,10 +26,6 @@ use Rattle.ics_starts.specs.SingleEvents.{entry_first, is_single}
 use Rattle.ics_series.specs.Spots.{event_at}
 use Rattle.ics_series.specs.Versions.{Label}
 use Rattle.ics_zone.specs.declared.bounds.Bounds.{Bounds}
-
--- every instant of an i64
-abbrev pub always : Span
-always = record { first = negsuc 9_223_372_036_854_775_807; last = pos 9_223_372_036_854_775_807 }
 
 -- from the start to the finish of an event, if it begins before the window's end, and else that end alone
 abbrev pub span_once : Clocks → Window → Event → Span
@@ -48,27 +45,6 @@ span_of clocks w (Some event) = span_by clocks w event
 -- that of the event of a version
 abbrev pub span_at : List FileSaid → Clock → Window → Label → Span
 span_at files display w label = span_of (clocks_at files display label.spot.file) w (event_at files label.spot)
-
--- what lies in a span can meet a window
-abbrev pub can_meet : Span → Window → Bool
-can_meet s w = int_lt s.first w.to && int_le w.from s.last
-
-abbrev pub is_out_of : Option Span → Window → Bool
-is_out_of None w = false
-is_out_of (Some s) w = not (can_meet s w)
-
--- the span at a place, if there is one there, cannot meet a window
-abbrev pub is_out : List Span → ℕ → Window → Bool
-is_out spans place w = is_out_of (slice_get spans place) w
-
--- the instant with which a span begins, or the first of all
-abbrev pub first_in : Option Span → ℤ
-first_in None = always.first
-first_in (Some s) = s.first
-
--- that of the span at a place
-abbrev pub first_at : List Span → ℕ → ℤ
-first_at spans place = first_in (slice_get spans place)
 
 -- an occurrence begins at an instant or later, if there is one
 abbrev pub IsStartedBy : Option ℤ → Entry → Type 0

@@ -1,4 +1,4 @@
-use Rattle.std.proofs.Common.{◌≡◌, ◌≤ℤ◌, ◌-ℤ◌, ◌+ℤ◌, ℤ, length, pos, rules, refl, ◌∙◌, sym, subst, arith, ◌*ℤ◌, to_z, of_z, w32, w64}
+use Rattle.std.proofs.Common.{◌≡◌, ◌≤ℤ◌, ◌-ℤ◌, ◌+ℤ◌, ℤ, length, pos, rules, refl, ◌∙◌, ap, sym, subst, arith, to_z, of_z, w32, w64}
 use Rattle.std.specs.Int.{int_max, int_min}
 use Rattle.std.proofs.lemmas.Int.{int_max_is, int_min_is, ints, to_z-of_z}
 use Rattle.std.proofs.lemmas.Option.{slice_get_read}
@@ -29,13 +29,6 @@ next-fits day within = omega (arith, ints, within.0, within.1)
 shown-fits : (w : Window) (first least : ℤ) → w.from ≤ℤ first → first ≤ℤ w.to → IsNear least
     → to_z w64 (of_z w64 (first +ℤ to_z w64 (of_z w64 least))) ≡ first +ℤ least
 shown-fits w first least low high short = omega (arith, ints, low, high, short.0, short.1, w.not_early, w.not_late)
-
--- the instant from which on spans have not ended
-from-is : (day most from : ℤ) → IsDay day → IsNear most → from ≡ to_z w32 (of_z w32 (to_z w32 (of_z w32 day) +ℤ pos 1))
-    → to_z w64 (of_z w64 (to_z w64 (of_z w64 (to_z w64 (of_z w64 from) *ℤ pos 86_400)) -ℤ to_z w64 (of_z w64 most))) ≡ midnight (day +ℤ pos 1) -ℤ most
-from-is day most from within short is =
-    let next : from ≡ day +ℤ pos 1 = is ∙ next-fits day within in
-    omega (arith, ints, next, within.0, within.1, short.0, short.1)
 
 -- at most each of two
 under-both : {min a b : ℤ} → min ≡ int_min a b → (min ≤ℤ a) × (min ≤ℤ b)
@@ -111,9 +104,20 @@ returns-clause-none c = λ x later early s m clock n near-x.
     let day-is : to_z w32 (of_z w32 c.min.result) ≤ℤ int_max c.of_seconds-reached.result.day (c.args.day +ℤ pos 1) =
     subst (λ r. r ≤ℤ int_max c.of_seconds-reached.result.day (c.args.day +ℤ pos 1)) (sym fits)
     (subst (λ m. c.min.result ≤ℤ m) (max ∙ (c.max.ensures.value ∙ (λ i. int_max (reached i) (next i)))) under.0) in
+    let day : to_z w32 (of_z w32 c.args.day) ≡ c.args.day = search rules in
+    let from-fits : to_z w64 (of_z w64 c.begin_after-from.result) ≡ c.begin_after-from.result = search rules in
     let between = near-between w b low most
-    (from-is c.args.day c.args.bounds.most c.from.result near c.requires.offsets.most_short c.from.ensures)
+    (from-fits ∙ c.begin_after-from.ensures ∙ ap (λ (d : ℤ). midnight (d +ℤ pos 1) -ℤ c.args.bounds.most) day)
     first (rw shown at c.of_seconds-reached.ensures.day) day-is x later early clock n near-x in
     let there = contains-in s c.args.spans.now m in
     c.first.ensures.none n between.0 between.1 (c.requires.places clock x n later near-x) there.0 s
     (slice_get_read c.args.spans.now (length c.args.spans.now) there.0 s refl there.1 (sym there.2))
+
+pub begin_after-from-requires : goal.begin_after-from-requires
+begin_after-from-requires c =
+    let day : to_z w32 (of_z w32 c.args.day) ≡ c.args.day = search rules in
+    record {
+      offsets = c.requires.offsets;
+      day = subst IsDay (sym day)
+          (day-fits c.args.window.now c.args.bounds c.requires.offsets c.args.day c.requires.low (omega (arith, ints, c.requires.more, c.requires.last)));
+    }

@@ -1,11 +1,15 @@
-use Rattle.std.specs.Prelude.{List}
+use Rattle.std.specs.Prelude.{◌≡◌, true, List}
 use Rattle.std.specs.List.{AllByRecursion}
 use Rattle.ics_file.specs.File.{FileSaid}
 use Rattle.ics_listing.specs.FileClocks.{Clock}
+use Rattle.ics_series.specs.Inner.Ended.{AreMovedOff, IsOverPart}
 use Rattle.ics_series.specs.Inner.Kept.{AreKept, IsPartOf}
 use Rattle.ics_series.proofs.kept.give_back.Given as goal
 
 abbrev pub invariant-loop-lead : goal.invariant-loop-lead
-invariant-loop-lead l =
-    (files : List FileSaid) (display : Clock) → AllByRecursion (λ x. IsPartOf files display x.feed) l.yielded → AreKept files display l.initial.kept.items
-    → AreKept files display l.kept.items
+invariant-loop-lead l = record {
+  kept : (files : List FileSaid) (display : Clock) → AllByRecursion (λ x. IsPartOf files display x.feed) l.yielded
+      → AreKept files display l.initial.kept.items → AreKept files display l.kept.items;
+  spans : AreMovedOff l.versions l.near (λ s day. l.over ≡ true → AllByRecursion (λ x. IsOverPart s day x.feed) l.yielded)
+      l.initial.spans.items l.spans.items;
+}

@@ -6,7 +6,7 @@ use Rattle.ics_starts.specs.declared.series.Series.{Series}
 use Rattle.ics_starts.specs.FileZones.{clocks_in}
 use Rattle.ics_starts.specs.Quiet.{IsQuietTo}
 use Rattle.ics_starts.specs.SeriesFeed.{IsSameSeries}
-use Rattle.ics_series.specs.Inner.Spans.{first_at}
+use Rattle.ics_days.specs.Spans.{first_at}
 use Rattle.ics_series.proofs.masters.move_on.Goals as goal
 
 -- the same series is quiet to the same instant

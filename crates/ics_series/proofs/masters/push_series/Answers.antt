@@ -11,21 +11,23 @@ use Rattle.ics_starts.specs.Clocks.{display_clock}
 use Rattle.ics_series.specs.Versions.{seen}
 use Rattle.ics_starts.specs.declared.mark.Mark.{Mark}
 use Rattle.ics_series.specs.declared.part.Part.{Part}
-use Rattle.ics_series.specs.declared.part.Part.TheVariants as part
 use Rattle.ics_starts.specs.declared.series.Series.{Series}
-use Rattle.ics_series.specs.declared.span.Span.{Span}
+use Rattle.ics_days.specs.declared.span.Span.{Span}
 use Rattle.ics_series.specs.AgendaParts.{part_coming, part_sources}
 use Rattle.ics_listing.specs.Entry.{key_rank}
 use Rattle.ics_starts.specs.FileZones.{clocks_in}
 use Rattle.ics_series.specs.Inner.Marks.{AreMarks}
 use Rattle.ics_series.specs.Inner.Masters.{AreFrom, HasLists, HasSources}
-use Rattle.ics_series.specs.Inner.NearPlaces.{AreSameBut}
-use Rattle.ics_series.specs.Inner.Spans.{first_at, is_out, AreMovedOn, IsMovedOn}
+use Rattle.ics_days.specs.NearPlaces.{AreSameBut}
+use Rattle.ics_days.specs.Spans.{first_at, is_out}
+use Rattle.ics_series.specs.Inner.Spans.{AreMovedOn, IsMovedOn}
 use Rattle.ics_starts.specs.SeriesFeed.{series_left, series_of, series_sources}
 use Rattle.ics_listing.proofs.ListingLemmas.{get-in}
 use Rattle.ics_series.proofs.GapLemmas.{lists-gap, looked-all, looked-none, looked-one, moved-others, place-gap, place-low, place-within}
 use Rattle.ics_series.proofs.GapLemmas.{sources-gap, IsLookedTo}
-use Rattle.ics_series.proofs.MarkLemmas.{mark-of, marks-put, own-mark}
+use Rattle.ics_listing.specs.FeedSources.{Recurring}
+use Rattle.std.specs.Option.{unwrap_or}
+use Rattle.ics_series.proofs.MarkLemmas.{first_source, mark-of, marks-put, own-mark}
 use Rattle.ics_series.proofs.OverrideLemmas.{any_version}
 use Rattle.ics_series.proofs.RecurringLemmas.{not-single}
 use Rattle.ics_starts.proofs.SameLemmas.{same-sources}
@@ -34,7 +36,7 @@ use Rattle.ics_series.proofs.SourceLemmas.{sources-skip}
 use Rattle.ics_series.proofs.SpanLemmas.{come-first, out-version, series-moved}
 use Rattle.ics_series.proofs.VersionLemmas.{stands}
 use Rattle.ics_series.proofs.masters.push_series.Goals as goal
-use Rattle.ics_series.proofs.masters.push_series.Goals.{At-loop-place, In_ok-series, in-Some+in_ok-move_on+in_ok-new+in_ok-push, in_default}
+use Rattle.ics_series.proofs.masters.push_series.Goals.{At-loop-place, In_ok-series, in-Some+in_ok-move_on+in_ok-held+in_ok-push, in_default}
 
 -- the spans after a version's own was moved on, or could not be
 moved-on : (c : In_ok-series) (series : Series) {spans : List Span} → c.in_ok-series.field-0 ≡ Some series
@@ -71,9 +73,9 @@ pub returns-in_err-move_on-clause-spans : goal.returns-in_err-move_on-clause-spa
 returns-in_err-move_on-clause-spans c =
     moved-on (goal.at.returns-in_err-move_on-clause-spans c).In_ok-series c.in-Some.series c.in-Some.is c.move_on.ensures.spans
 
-pub returns-in_err-new-clause-spans : goal.returns-in_err-new-clause-spans
-returns-in_err-new-clause-spans c =
-    moved-on (goal.at.returns-in_err-new-clause-spans c).In_ok-series c.in-Some.series c.in-Some.is c.move_on.ensures.spans
+pub returns-in_err-held-clause-spans : goal.returns-in_err-held-clause-spans
+returns-in_err-held-clause-spans c =
+    moved-on (goal.at.returns-in_err-held-clause-spans c).In_ok-series c.in-Some.series c.in-Some.is c.move_on.ensures.spans
 
 pub returns-in_err-push-clause-spans : goal.returns-in_err-push-clause-spans
 returns-in_err-push-clause-spans c =
@@ -83,13 +85,27 @@ pub returns-in_err-move_on-clause-others : goal.returns-in_err-move_on-clause-ot
 returns-in_err-move_on-clause-others c =
     others-on (goal.at.returns-in_err-move_on-clause-others c).In_ok-series c.in-Some.series c.move_on.ensures.spans
 
-pub returns-in_err-new-clause-others : goal.returns-in_err-new-clause-others
-returns-in_err-new-clause-others c =
-    others-on (goal.at.returns-in_err-new-clause-others c).In_ok-series c.in-Some.series c.move_on.ensures.spans
+pub returns-in_err-held-clause-others : goal.returns-in_err-held-clause-others
+returns-in_err-held-clause-others c =
+    others-on (goal.at.returns-in_err-held-clause-others c).In_ok-series c.in-Some.series c.move_on.ensures.spans
 
 pub returns-in_err-push-clause-others : goal.returns-in_err-push-clause-others
 returns-in_err-push-clause-others c =
     others-on (goal.at.returns-in_err-push-clause-others c).In_ok-series c.in-Some.series c.move_on.ensures.spans
+
+-- the event of the series is that of its version
+pub invariant_of-placed : goal.invariant_of-placed
+invariant_of-placed c =
+    let k = get_or c.args.near.now c.loop-place.place-index 0 in
+    let v = get_or c.args.chosen.now k c.index-chosen-place.result in
+    let there =
+    slice_get-get_or c.args.chosen.now k c.index-chosen-place.result (place-within c.requires.near c.loop-place.place-index c.loop-place-test.true) in
+    let m = MatchOption-at_some _ _ c.in-Some.series c.in-Some.is (c.in_ok-series.ensures.sources v there) in
+    let own = ap (λ (r : Recurring). r.event) (ap (first_source m.0) m.2) in
+    let event = ap (λ o. unwrap_or o m.0.event) (sym m.1.stands ∙ c.event-event.ensures.event) in
+    record {
+      own = ap (λ (s : Series). s.event.now) (c.in_ok-held.ensures.ok) ∙ (ap (λ e. e.now) c.move_on.ensures.same.event ∙ (own ∙ event));
+    }
 
 -- the lists and the sources up to the place that is looked at, where what lies before it gives nothing
 to-here : (c : At-loop-place) → c.loop-place.place-index < length c.args.near.now
@@ -152,8 +168,8 @@ loop-place-preserved c =
     let files = map said_by c.args.files.now in
     let AreMoved = AreMovedOn files (display_clock c.args.display.now) c.args.window c.args.floor (map seen vs) c.args.spans.now.items in
     elim c.match-branch-2.branch [
-      | in-Some+in_ok-move_on+in_ok-new+in_ok-push w ↦
-          let value : w.in_ok-new.field-0.value ≡ w.move_on.new.series = w.in_ok-new.ensures.ok in
+      | in-Some+in_ok-move_on+in_ok-held+in_ok-push w ↦
+          let value : w.in_ok-held.held.value ≡ w.move_on.new.series = w.in_ok-held.ensures.ok in
           let m = MatchOption-at_some _ _ w.in-Some.series w.in-Some.is (c.in_ok-series.ensures.sources v there) in
           record {
             looked = (
@@ -162,13 +178,13 @@ loop-place-preserved c =
               versions-more vs k there here.0
                   (MatchOption-at_some _ _ w.in-Some.series w.in-Some.is (c.in_ok-series.ensures.series v there))
                   (ap (λ (p : Vec Part Global). map part_coming p.items) w.parts-is ∙ (ap (map part_coming) w.in_ok-push.ensures.items
-                  ∙ (map-append part_coming c.loop-place.parts.items (part.Series w.in_ok-new.field-0 ∷ [])
+                  ∙ (map-append part_coming c.loop-place.parts.items _
                   ∙ ap (λ xs. map part_coming c.loop-place.parts.items ++ xs ∷ [])
                   (ap (λ (s : Series). series_of s (series_left s)) value ∙ w.move_on.ensures.coming)))),
               sources-more c.requires.chosen k there here.1 m.1
                   (ap (λ (p : Vec Part Global). flat_map part_sources p.items) w.parts-is ∙ (ap (flat_map part_sources) (w.in_ok-push.ensures.items)
-                  ∙ (flat_map-append part_sources c.loop-place.parts.items (part.Series w.in_ok-new.field-0 ∷ [])
-                  ∙ ap (λ xs. flat_map part_sources c.loop-place.parts.items ++ xs) (append-nil (series_sources w.in_ok-new.field-0.value)
+                  ∙ (flat_map-append part_sources c.loop-place.parts.items _
+                  ∙ ap (λ xs. flat_map part_sources c.loop-place.parts.items ++ xs) (append-nil (series_sources w.in_ok-held.held.value)
                   ∙ (ap series_sources value ∙ (same-sources w.in-Some.series w.move_on.new.series w.move_on.ensures.same ∙ m.2)))))),
             );
             spans = subst AreMoved (sym (ap (λ (p : Vec Span Global). p.items) w.spans-is))
@@ -223,8 +239,8 @@ loop-place-preserved-then-is_out c =
       kept = c.loop-place.invariant.kept;
     }
 
-pub event-requires : goal.event-requires
-event-requires c =
+pub event-event-requires : goal.event-event-requires
+event-event-requires c =
     let k = get_or c.args.near.now c.loop-place.place-index 0 in
     stands k c.requires.chosen
     (slice_get-get_or c.args.chosen.now k c.index-chosen-place.result (place-within c.requires.near c.loop-place.place-index c.loop-place-test.true))
@@ -241,7 +257,7 @@ loop-place-preserved-then-is_single c =
         k + 1,
         on-from (goal.at.loop-place-preserved-then-is_single c).At-loop-place c.loop-place-test.true,
         versions-skip vs k there here.0
-            (not-single {u = v} {v = v} refl c.event.ensures.event (sym c.is_single.ensures ∙ c.if-is_single.true)) refl,
+            (not-single {u = v} {v = v} refl c.event-event.ensures.event (sym c.is_single.ensures ∙ c.if-is_single.true)) refl,
         sources-skip c.requires.chosen k there here.1 refl,
       );
       spans = c.loop-place.invariant.spans;

@@ -6,7 +6,7 @@ use Rattle.ics_listing.specs.Entry.{key_rank}
 use Rattle.ics_series.specs.Inner.Kept.{AreKept}
 use Rattle.ics_series.specs.Inner.Marks.{AreMarks}
 use Rattle.ics_series.specs.Inner.Masters.{HasLists, HasSources}
-use Rattle.ics_series.specs.Inner.NearPlaces.{AreSameBut}
+use Rattle.ics_days.specs.NearPlaces.{AreSameBut}
 use Rattle.ics_series.specs.Inner.Spans.{AreMovedOn}
 use Rattle.ics_series.specs.AgendaParts.{part_coming, part_sources}
 use Rattle.ics_series.specs.Versions.{seen}

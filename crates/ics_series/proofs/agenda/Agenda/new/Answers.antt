@@ -5,7 +5,7 @@ use Rattle.ics_starts.specs.Clocks.{display_clock}
 use Rattle.ics_listing.specs.Entry.{key_rank}
 use Rattle.ics_series.specs.Inner.Kept.{AreKept}
 use Rattle.ics_series.specs.Inner.Marks.{AreMarks}
-use Rattle.ics_series.specs.Inner.NearPlaces.{AreBelow, AreNear}
+use Rattle.ics_days.specs.NearPlaces.{AreBelow, AreNear}
 use Rattle.ics_series.specs.Versions.{is_override, seen}
 use Rattle.ics_series.proofs.MarkLemmas.{no-marks}
 use Rattle.ics_series.proofs.SinglesLemmas.{behind-key}

@@ -5,7 +5,7 @@ use Rattle.ics_file.specs.File.{said_by}
 use Rattle.ics_starts.specs.Clocks.{display_clock}
 use Rattle.ics_series.specs.Versions.{seen}
 use Rattle.ics_listing.proofs.Cases.{if-both}
-use Rattle.ics_series.specs.Inner.NearPlaces.{AreNear}
+use Rattle.ics_days.specs.NearPlaces.{AreNear}
 use Rattle.ics_series.specs.Inner.Spans.{floor_of}
 use Rattle.ics_days.proofs.NearDayLemmas.{bounds-offsets}
 use Rattle.ics_series.proofs.ReachLemmas.{near-from, near-of, places-moved}

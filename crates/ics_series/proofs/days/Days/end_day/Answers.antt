@@ -1,14 +1,24 @@
-use Rattle.std.proofs.Common.{map, refl, arith, subst, sym}
+use Rattle.std.proofs.Common.{◌≡◌, ◌∙◌, ◌≤ℤ◌, ◌+ℤ◌, ◌-ℤ◌, pos, map, refl, arith, rules, subst, sym, to_z, of_z, w32, w64}
 use Rattle.std.specs.List.{AllByRecursion}
 use Rattle.std.proofs.Math.Bridge.{le_prop}
 use Rattle.std.proofs.Math.Logic.{∥∥₁_elim}
 use Rattle.std.proofs.lemmas.Int.{ints}
 use Rattle.ics_file.specs.File.{said_by}
+use Rattle.ics_days.proofs.NearDayLemmas.{bounds-offsets, day-fits}
+use Rattle.ics_fields.specs.Locals.{midnight}
 use Rattle.ics_series.specs.Ahead.{agenda_coming}
+use Rattle.ics_zone.proofs.Cases.{int_le_true}
+use Rattle.ics_zone.specs.Seconds.{IsDay}
 use Rattle.ics_starts.specs.Clocks.{display_clock}
 use Rattle.ics_series.specs.DaySteps.{agenda_sources, scope_in}
 use Rattle.ics_series.proofs.AheadLemmas.{ahead-dropped, day-masters, looked-dropped, no-masters}
-use Rattle.ics_series.proofs.KnownLemmas.{parts-of}
+use Rattle.ics_series.proofs.KnownLemmas.{each-of, parts-of}
+use Rattle.ics_series.proofs.OverLemmas.{ended-none, over-all}
+use Rattle.ics_series.proofs.ReachLemmas.{places-moved}
+use Rattle.ics_series.proofs.SpanLemmas.{chosen-back}
+use Rattle.ics_series.specs.Inner.Ended.{IsOver, IsOverPart}
+use Rattle.ics_series.specs.Inner.SpanLaws.{spans-after-prop}
+use Rattle.ics_series.specs.Versions.{seen}
 use Rattle.ics_series.specs.Inner.Kept.{kept-prop, IsPartOf}
 use Rattle.ics_series.specs.Sources.{recurring}
 use Rattle.ics_series.proofs.days.Days.end_day.Goals as goal
@@ -20,17 +30,37 @@ invariant_of-self c =
     let more = c.requires.more in
     let files = map said_by self.files.now in
     let display = display_clock self.display.now in
+    let fits : to_z w32 (of_z w32 c.args.self.now.today.day) ≡ c.args.self.now.today.day = search rules in
+    let lasts-fit : to_z w64 (of_z w64 c.args.self.now.today.lasts) ≡ c.args.self.now.today.lasts = search rules in
+    let from-fits : to_z w64 (of_z w64 c.begin_after.result) ≡ c.begin_after.result = search rules in
+    let offsets = bounds-offsets display self.window self.bounds self.bounded in
+    let short = offsets.most_short in
+    let within = day-fits self.window self.bounds offsets self.today.day self.not_before (omega (arith, ints, more, self.within)) in
     record {
       chosen = self.chosen;
       overriding = self.overriding;
       counted = self.counted;
-      reached = self.reached;
-      sized = self.sized;
+      reached = places-moved self.places self.spans.items c.give_back.new.spans.items (rw c.deref-2.ensures.value at c.give_back.ensures.spans.others)
+          self.reached;
+      sized = c.give_back.ensures.spans.size ∙ self.sized;
       bounded = self.bounded;
-      spanned = self.spanned;
+      spanned = ∥∥₁_elim c.args.self.now.masters
+          (spans-after-prop files display self.bounds self.window self.today.day (map seen self.versions.items) c.give_back.new.spans.items) (λ are.
+          (rw c.deref.ensures.value at c.give_back.ensures.spans).still scope self.today.day
+          (chosen-back files display self.versions.items self.chosen)
+          (λ over.
+          let lasts : c.args.self.now.today.lasts ≤ℤ c.begin_after.result =
+          omega (arith, ints, int_le_true (to_z w64 (of_z w64 self.today.lasts)) (to_z w64 (of_z w64 c.begin_after.result)) over, lasts-fit, from-fits) in
+          let soon : c.args.self.now.today.lasts ≤ℤ (midnight (c.args.self.now.today.day +ℤ pos 1) -ℤ c.args.self.now.bounds.most) =
+          omega (arith, ints, lasts, c.begin_after.ensures, fits) in
+          subst (AllByRecursion (λ l. IsOverPart scope self.today.day l.feed)) (sym c.end-leads.ensures.leads)
+          (each-of (IsOver scope self.today.day) (λ l. l.feed) self.today.agenda.merge.leads.items
+          (over-all scope self.today.day (recurring (agenda_sources self.today.agenda)) c.requires.none
+          soon self.today.agenda.apart.1.0 are (self.ended (omega (arith, ints, soon, within.1, short.0))))))
+          self.spanned);
       marked = self.marked;
       known = ∥∥₁_elim c.args.self.now.masters (kept-prop files display c.give_back.new.kept.items) (λ are.
-          c.give_back.ensures files display
+          c.give_back.ensures.kept files display
           (subst (AllByRecursion (λ l. IsPartOf files display l.feed)) (sym c.end-leads.ensures.leads)
           (parts-of files display (λ l. l.feed) self.today.agenda.merge.leads.items
           (day-masters scope self.today.day (recurring (agenda_sources self.today.agenda)) are))) self.known);
@@ -45,6 +75,8 @@ invariant_of-self c =
       shown = self.shown;
       within = self.within;
       below = self.below;
+      ended = λ early.
+          ended-none files display (agenda_coming c.end-leads.new.self) self.today.lasts c.end-leads.ensures.sources;
     }
 
 pub returns-clause-counted : goal.returns-clause-counted
@@ -54,3 +86,14 @@ pub returns-clause-ahead : goal.returns-clause-ahead
 returns-clause-ahead c = λ list a.
     let self = c.args.self.now in
     ahead-dropped (map said_by self.files.now) (display_clock self.display.now) self.window self.today.day c.requires.none c.end-leads.ensures.none list a
+
+pub begin_after-requires : goal.begin_after-requires
+begin_after-requires c =
+    let self = c.args.self.now in
+    let offsets = bounds-offsets (display_clock self.display.now) self.window self.bounds self.bounded in
+    let fits : to_z w32 (of_z w32 c.args.self.now.today.day) ≡ c.args.self.now.today.day = search rules in
+    record {
+      offsets = offsets;
+      day = subst IsDay (sym fits)
+          (day-fits self.window self.bounds offsets self.today.day self.not_before (omega (arith, ints, c.requires.more, self.within)));
+    }

@@ -1,4 +1,4 @@
-use Rattle.std.proofs.Common.{rules, ◌≡◌, ◌∙◌, filter, length, map, refl, ap, subst, sym, arith, to_z, of_z, w32, ◌≤ℤ◌, option_map}
+use Rattle.std.proofs.Common.{rules, ◌≡◌, ◌∙◌, filter, length, map, refl, ap, subst, sym, arith, to_z, of_z, w32, w64, ◌≤ℤ◌, option_map}
 use Rattle.std.proofs.lemmas.Int.{ints}
 use Rattle.std.proofs.lemmas.List.{length-map}
 use Rattle.ics_file.specs.File.{said_by}
@@ -12,6 +12,7 @@ use Rattle.ics_days.specs.NearDays.{first_near}
 use Rattle.ics_series.specs.Versions.{is_override, seen}
 use Rattle.ics_series.proofs.AheadLemmas.{begun-ahead, begun-by, day-keys, first-masters, from-start, looked-before}
 use Rattle.ics_series.proofs.MarkLemmas.{marks-none}
+use Rattle.ics_series.proofs.OverLemmas.{first-ended}
 use Rattle.ics_series.proofs.SpanLemmas.{those-chosen}
 use Rattle.ics_series.proofs.WholeLemmas.{keys, masters-listed, whole}
 use Rattle.ics_series.specs.Inner.Kept.{AreKept}
@@ -101,4 +102,9 @@ invariant_of-result c =
       shown = λ t from to. subst (λ d. date_at (display_clock c.args.display.now) t ≤ℤ d) (sym last) (c.last_shown-last.ensures.shown t from to);
       within = omega (arith, ints, last, c.last_shown-last.ensures.near);
       below = c.key_below-floor.ensures;
+      ended = λ early.
+          let fits : to_z w64 (of_z w64 c.none_given-lasts.result) ≡ c.none_given-lasts.result = search rules in
+          let none = c.none_given-lasts.ensures (omega (arith, ints, early, fits)) in
+          first-ended (map said_by c.args.files.now) (display_clock c.args.display.now) (to_z w64 (of_z w64 c.none_given-lasts.result))
+          (agenda_coming c.in_ok-agenda.agenda) (agenda_sources c.in_ok-agenda.agenda) none c.in_ok-agenda.ensures.agenda;
     }

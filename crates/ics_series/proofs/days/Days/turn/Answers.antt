@@ -1,4 +1,4 @@
-use Rattle.std.proofs.Common.{◌≡◌, ◌∙◌, ◌<ℤ◌, map, option_map, true, subst, arith, rules, to_z, of_z, w32}
+use Rattle.std.proofs.Common.{◌≡◌, ◌∙◌, ◌<ℤ◌, map, option_map, true, subst, arith, rules, to_z, of_z, w32, w64}
 use Rattle.ics_days.specs.ShownDays.{is_on}
 use Rattle.ics_listing.specs.Entry.{key_rank}
 use Rattle.std.proofs.Math.Bridge.{le_prop}
@@ -12,6 +12,7 @@ use Rattle.ics_days.specs.NearDays.{first_near}
 use Rattle.ics_days.proofs.NearDayLemmas.{bounds-offsets}
 use Rattle.ics_series.specs.Sources.{recurring}
 use Rattle.ics_series.proofs.AheadLemmas.{ahead-turned, from-later, looked-before, looked-next, searched-masters}
+use Rattle.ics_series.proofs.OverLemmas.{ended-first}
 use Rattle.ics_series.proofs.ReachLemmas.{near-of, places-moved, places-next, places-same}
 use Rattle.ics_series.proofs.SpanLemmas.{after-next, after-same, chosen-back, none-between}
 use Rattle.ics_series.proofs.days.Days.turn.Goals as goal
@@ -90,6 +91,7 @@ invariant_of-self c =
       shown = self.shown;
       within = self.within;
       below = self.below;
+      ended = self.ended;
     }
 
 -- no day was turned to, but places may have been reached, and spans and marks moved on
@@ -97,7 +99,7 @@ invariant_of-self c =
 pub invariant_of-self-2 : goal.invariant_of-self-2
 invariant_of-self-2 c =
     let places = c.reach.new.self in
-    (places.rising, (places.below, (places.ordered, (places.waiting_below, tt))))
+    (places.rising, (places.below, (places.ordered, (places.waiting_below, (places.returned_below, tt)))))
 
 pub invariant_of-self-in-Break-branch-2 : goal.invariant_of-self-in-Break-branch-2
 invariant_of-self-in-Break-branch-2 c =
@@ -129,6 +131,7 @@ invariant_of-self-in-Break-branch-2 c =
       shown = self.shown;
       within = self.within;
       below = self.below;
+      ended = self.ended;
     }
 
 pub invariant_of-self-3 : goal.invariant_of-self-3
@@ -171,6 +174,11 @@ invariant_of-self-3 c =
       shown = self.shown;
       within = self.within;
       below = self.below;
+      ended = λ early.
+          let fits : to_z w64 (of_z w64 c.none_given-lasts.result) ≡ c.none_given-lasts.result = search rules in
+          ended-first files display c.near_day-near.result (to_z w64 (of_z w64 c.none_given-lasts.result)) (agenda_coming c.in_ok-agenda.agenda)
+          (agenda_sources c.in_ok-agenda.agenda) (c.none_given-lasts.ensures (omega (arith, ints, early, fits))) c.in_ok-agenda.ensures.listing
+          c.in_ok-agenda.ensures.sources.each;
     }
 
 pub returns-clause-day : goal.returns-clause-day

@@ -1,0 +1,192 @@
+-- The spans of masters of which nothing is to come near a day.
+use Rattle.std.proofs.Common.{◌≡◌, ◌∙◌, ℕ, ℤ, pos, ◌+ℤ◌, ◌-ℤ◌, ◌<ℤ◌, ◌≤ℤ◌, List, [], ◌∷◌, ◌++◌, Option, Some, None, ◌⊎◌, inl, inr, ⊎_elim, false}
+use Rattle.std.proofs.Common.{map, refl, sym, ap, subst, arith, slice_get, get_or, length, nat_cmp, is_ok, Bool, true, Equal, Result, Ok, Err, IfOk, HoldsAt}
+use Rattle.std.specs.List.Sorted.{IsSearchInRange}
+use Rattle.std.proofs.lemmas.Map.Lookups.{exact_unsigned}
+use Rattle.std.specs.Option.{unwrap_or}
+use Rattle.std.specs.List.{AllByRecursion}
+use Rattle.std.proofs.lemmas.Int.{int_max_is, ints}
+use Rattle.ics_fields.specs.Locals.{midnight}
+use Rattle.ics_file.specs.File.{FileSaid}
+use Rattle.ics_event.specs.declared.event.Event.{Event}
+use Rattle.ics_listing.specs.Entry.{entry_cmp, Entry, Rank}
+use Rattle.ics_listing.specs.FeedSources.{Recurring, Source}
+use Rattle.ics_listing.specs.FileClocks.{Clock, Clocks}
+use Rattle.ics_listing.specs.Listing.{IsIn, IsListing}
+use Rattle.ics_listing.specs.declared.window.Window.{Window}
+use Rattle.ics_listing.proofs.ListingLemmas.{all-as, get-in, in-contains}
+use Rattle.ics_days.specs.NearDays.{IsNearDay}
+use Rattle.ics_series.specs.DaySteps.{IsDayMaster, IsNearAgenda, IsPastAgenda, Scope}
+use Rattle.ics_series.specs.HeldMost.{Master}
+use Rattle.ics_series.specs.Inner.Ended.{end_of, AreMovedOff, HasEnded, HaveEnded, IsMasterAt, IsOver, IsOverPart}
+use Rattle.ics_days.specs.Spans.{always, first_at}
+use Rattle.ics_series.specs.Inner.Spans.{AreSpansAfter, IsKeptFrom, IsPutOff, IsRest, floor_of}
+use Rattle.ics_series.specs.Meets.{IsListed, IsToCome}
+use Rattle.ics_series.specs.PlacedEvents.{Placed, clocks_at}
+use Rattle.ics_series.specs.Sources.{recurring, IsMasterOf}
+use Rattle.ics_series.specs.Spots.{event_at}
+use Rattle.ics_series.specs.Versions.{label_of, seen, AreChosen, Label}
+use Rattle.ics_series.specs.declared.part.Part.{Part}
+use Rattle.ics_days.specs.declared.span.Span.{Span}
+use Rattle.ics_series.specs.declared.version.Version.{Version}
+use Rattle.ics_starts.specs.Instances.{IsOf}
+use Rattle.ics_starts.specs.MeetsWindow.{Meets}
+use Rattle.ics_starts.specs.SingleEvents.{is_single}
+use Rattle.ics_series.proofs.KnownLemmas.{all-last}
+use Rattle.ics_series.proofs.OccursLemmas.{master-subject}
+use Rattle.ics_series.proofs.SpanLemmas.{from-first, low-start, meets-before, near-later, rest-span}
+use Rattle.ics_series.proofs.VersionLemmas.{in-map, one-chosen, placed-event}
+use Rattle.ics_zone.proofs.Cases.{less_or_not_z}
+
+-- spans that stay, and that are moved off one after the other
+module _ {vs : List Version} {near : List ℕ} where
+  pub moved_none : {IsKnown : Scope → ℤ → Type 0} (spans : List Span) → AreMovedOff vs near IsKnown spans spans
+  moved_none spans = record { size = refl; others = λ k away. refl; still = λ s day chosen known are. are }
+
+  -- those of the feeds before one, and of that one
+  pub moved-more : {L : Type 0} (feed : L → Part) {over : Bool} (ys : List L) (y : L) {part : Part} {old mid new : List Span} → part ≡ feed y
+      → AreMovedOff vs near (λ s day. over ≡ true → AllByRecursion (λ l. IsOverPart s day (feed l)) ys) old mid
+      → AreMovedOff vs near (λ s day. over ≡ true → IsOverPart s day part) mid new
+      → AreMovedOff vs near (λ s day. over ≡ true → AllByRecursion (λ l. IsOverPart s day (feed l)) (ys ++ y ∷ [])) old new
+  moved-more feed ys y is a b = record {
+    size = b.size ∙ a.size;
+    others = λ k away. b.others k away ∙ a.others k away;
+    still = λ s day chosen known are.
+        b.still s day chosen (λ t. subst (IsOverPart s day) (sym is) (all-last ys y (λ l. IsOverPart s day (feed l)) (known t)).1)
+        (a.still s day chosen (λ t. (all-last ys y (λ l. IsOverPart s day (feed l)) (known t)).0) are);
+  }
+
+-- so of what more is known
+pub moved-as : {vs : List Version} {near : List ℕ} {IsKnown IsMore : Scope → ℤ → Type 0} {old new : List Span} → AreMovedOff vs near IsKnown old new
+    → ((s : Scope) (day : ℤ) → IsMore s day → IsKnown s day) → AreMovedOff vs near IsMore old new
+moved-as a known = record { size = a.size; others = a.others; still = λ s day chosen more are. a.still s day chosen (known s day more) are }
+
+-- what a search finds is among the places
+pub found-near : (near : List ℕ) (k : ℕ) (r : Result ℕ ℕ) → IsSearchInRange r (length near) → IfOk r (HoldsAt (λ y. nat_cmp y k ≡ Equal) near)
+    → is_ok r ≡ true → IsIn k near
+found-near near k (Ok i) within holds found = in-contains k near (i, within, exact_unsigned (get_or near i k) k (holds k))
+found-near near k (Err i) within holds found = let no : false ≡ true = found in absurd cc
+
+-- at first nothing was given
+pub ended-first : (files : List FileSaid) (display : Clock) (w : Window) {key : Option Rank} (by : ℤ) (coming : List Entry) (sources : List Source)
+    → key ≡ None → IsListing entry_cmp (IsToCome files display w key) coming → AllByRecursion (IsMasterOf files display w key) (recurring sources)
+    → AllByRecursion (HasEnded files display coming by) (recurring sources)
+ended-first files display w {key = key} by coming sources none listing are =
+    all-as (IsMasterOf files display w key) (HasEnded files display coming by) (recurring sources)
+    (λ m is o e listed away.
+    let here : IsToCome files display w key o = rw none (subst (λ n. IsListed files display n o) is.window listed) in
+    absurd (away ((listing.exact o).1 here))) are
+
+-- nor was anything where there are no sources
+pub ended-none : (files : List FileSaid) (display : Clock) (coming : List Entry) (by : ℤ) {sources : List Source} → sources ≡ []
+    → AllByRecursion (HasEnded files display coming by) (recurring sources)
+ended-none files display coming by none = rw none tt
+
+-- so of a day's agenda
+pub first-ended : (files : List FileSaid) (display : Clock) (by : ℤ) (coming : List Entry) (sources : List Source) {IsNear : Window → Type 0} {last day : ℤ}
+    {key : Option Rank} → key ≡ None → IsNearAgenda files display IsNear key coming sources ⊎ IsPastAgenda last day coming sources
+    → AllByRecursion (HasEnded files display coming by) (recurring sources)
+first-ended files display by coming sources none (inl a) = ended-first files display a.window by coming sources none a.listing a.are.each
+first-ended files display by coming sources none (inr a) = ended-none files display coming by a.no_source
+
+-- then an occurrence is given
+pub ended-given : (files : List FileSaid) (display : Clock) {by next : ℤ} {o : Entry} {old new : List Entry} (ms : List Recurring) → old ≡ o ∷ new
+    → by ≤ℤ next → (is_single o.event ≡ false → end_of o ≤ℤ next) → AllByRecursion (λ m. is_single m.event ≡ false) ms
+    → AllByRecursion (HasEnded files display old by) ms → AllByRecursion (HasEnded files display new next) ms
+ended-given files display [] is later end recur ended = tt
+ended-given files display {by = by} {next = next} {o = o} {old = old} {new = new} (m ∷ ms) is later end recur ended = (
+  λ p e listed away. elim (less_or_not_z next (end_of p)) [
+    | inl less ↦ absurd (
+        let before = ended.0 p e listed (λ there. ⊎_elim
+        (λ same.
+        let own = end (ap (λ (x : Entry). is_single x.event) (sym same) ∙ (ap is_single e ∙ recur.0)) in
+        let mine : end_of p ≡ end_of o = ap end_of same in omega (arith, ints, own, mine, less))
+        (λ rest. away rest) (subst (IsIn p) is there)) in
+        omega (arith, ints, before, later, less))
+    | inr most ↦ most
+  ],
+  ended-given files display ms is later end recur.1 ended.1,
+)
+
+-- So of the masters of an agenda: where it gives nothing, and where it gives an occurrence.
+pub ended-same : (files : List FileSaid) (display : Clock) {by : ℤ} {old new : List Entry} {before now : List Source} → new ≡ old → now ≡ before
+    → HaveEnded files display old by before → HaveEnded files display new by now
+ended-same files display e f h = rw (e, f) h
+
+pub ended-next : (files : List FileSaid) (display : Clock) {by next : ℤ} {o : Entry} {old new : List Entry} {before now : List Source}
+    → old ≡ o ∷ new → now ≡ before → by ≤ℤ next → (next <ℤ always.last → is_single o.event ≡ false → end_of o ≤ℤ next)
+    → AllByRecursion (λ m. is_single m.event ≡ false) (recurring before)
+    → HaveEnded files display old by before → HaveEnded files display new next now
+ended-next files display {next = next} {new = new} {before = before} is same later end recur h early =
+    subst (λ (xs : List Source). AllByRecursion (HasEnded files display new next) (recurring xs)) (sym same)
+    (ended-given files display (recurring before) is later (end early) recur (h (omega (arith, ints, later, early))))
+
+-- the masters of which nothing is to come, where what was given has ended
+pub over-all : (s : Scope) (day : ℤ) {by : ℤ} {coming : List Entry} (ms : List Recurring) → coming ≡ [] → by ≤ℤ (midnight (day +ℤ pos 1) -ℤ s.bounds.most)
+    → AllByRecursion (λ m. is_single m.event ≡ false) ms → AllByRecursion (IsDayMaster s day) ms → AllByRecursion (HasEnded s.files s.display coming by) ms
+    → AllByRecursion (IsOver s day) ms
+over-all s day [] none soon recur are ended = tt
+over-all s day (m ∷ ms) none soon recur are ended = (
+  record {
+    searched = are.0;
+    recurs = recur.0;
+    ended = λ o e listed away. let end = ended.0 o e listed (λ there. subst (IsIn o) none there) in omega (arith, ints, end, soon);
+  },
+  over-all s day ms none soon recur.1 are.1 ended.1,
+)
+
+-- The span of such a master at its place.
+module _ (s : Scope) (day : ℤ) (vs : List Version) (chosen : AreChosen s.files s.display vs) {m : Recurring} (over : IsOver s day m) {k : ℕ}
+    (at : IsMasterAt (map seen vs) k m.event.uid) where
+  abbrev by : Placed
+  by = over.searched.by
+
+  -- the version there is that of the master
+  own-label : at.label ≡ label_of s.files s.display by
+  own-label =
+      let there = in-map (label_of s.files s.display) at.label chosen.chosen (subst (IsIn at.label) chosen.are (get-in at.label (map seen vs) k at.there)) in
+      let counts = (chosen.listing.exact there.0).0 there.1 in
+      let event = ap (λ (x : Master). x.event) over.searched.searched.same in
+      let subject : at.label.subject ≡ record { uid = by.event.uid; recurrence = None } =
+      λ i. record { uid = (at.same ∙ ap (λ (e : Event). e.uid) event) i; recurrence = at.single i } in
+      there.2 ∙ ap (label_of s.files s.display) (one-chosen counts over.searched.is.chosen
+      (sym (ap (λ (l : Label). l.subject) there.2) ∙ (subject ∙ sym (master-subject s.files s.display by over.searched.is))))
+
+  module _ (x : ℤ) (n : Window) (later : day <ℤ x) (near : IsNearDay s.display s.window s.bounds x n) where
+    -- none that meets a window near a later day begins before the end of the day's own
+    none-early : (o : Entry) → IsOf (clocks_at s.files s.display by.file) by.event o → Meets n o → IsKeptFrom s.files s.display (floor_of s.window) o
+        → o.start <ℤ m.window.to → ⊥
+    none-early o of meets asked begun =
+        let own = over.searched.searched in
+        let here = meets-before m.window n (near-later own.near near (omega (arith, ints, later))) o meets begun in
+        let end = over.ended o (of.event ∙ sym (ap (λ (x : Master). x.event) own.same))
+        (inl (record { master = by; is = over.searched.is; of = of; kept = asked.kept }), here) (λ there. there) in
+        let from : (midnight (day +ℤ pos 1) -ℤ s.bounds.most) ≤ℤ n.from =
+        omega (arith, ints, near.from, later, int_max_is s.window.from (midnight x -ℤ s.bounds.most)) in
+        let most = int_max_is o.finish (o.start +ℤ pos 1) in
+        ⊎_elim (λ a. omega (arith, ints, a, end, most, from)) (λ b. omega (arith, ints, b.1, end, most, from)) meets.lasting
+
+  pub over-still : {old new : List Span} → IsPutOff m.clocks m.event m.window m.since None [] old k new
+      → AreSpansAfter s.files s.display s.bounds s.window day (map seen vs) old → AreSpansAfter s.files s.display s.bounds s.window day (map seen vs) new
+  over-still {old = old} put are x n later near = λ j span label event there place stands. ⊎_elim
+      (λ before. are x n later near j span label event before place stands)
+      (λ mine.
+      let label-is : label ≡ label_of s.files s.display by =
+      ap (λ o. unwrap_or o label) (sym place ∙ (ap (slice_get (map seen vs)) mine.0 ∙ at.there)) ∙ own-label in
+      let placed = placed-event s.files by over.searched.is.chosen.placed in
+      let event-is : event ≡ by.event =
+      ap (λ o. unwrap_or o event) (sym stands ∙ (ap (λ (l : Label). event_at s.files l.spot) label-is ∙ placed)) in
+      let same = over.searched.searched.same in
+      let clocks : m.clocks ≡ clocks_at s.files s.display by.file = ap (λ (x : Master). x.clocks) same in
+      let event : m.event ≡ by.event = ap (λ (x : Master). x.event) same in
+      let recurs : is_single by.event ≡ false = sym (ap is_single event) ∙ over.recurs in
+      rw (label-is, event-is, mine.1)
+      (rest-span (clocks_at s.files s.display by.file) by.event recurs m.window n (IsKeptFrom s.files s.display (floor_of s.window))
+      (subst (λ (c : Clocks). IsRest c by.event m.window m.since put.span) clocks
+      (subst (λ (e : Event). IsRest m.clocks e m.window m.since put.span) event put.rest))
+      (λ o of meets asked enough.
+      low-start m.since (first_at old k) None put.low o tt
+      (from-first s.files s.display n (map seen vs) old (are x n later near) k (at.there ∙ ap Some own-label) by.event placed recurs o of meets asked enough)
+      enough)
+      (none-early x n later near)))
+      (put.put.1 j span there)

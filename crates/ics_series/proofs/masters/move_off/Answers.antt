@@ -1,0 +1,51 @@
+use Rattle.std.proofs.Common.{◌≡◌, ◌∙◌, ◌≤ℤ◌, [], None, ap, inr, arith, map, refl, rules, sym, subst, to_z, of_z, w64, pos}
+use Rattle.std.proofs.lemmas.Int.{int_max_is, ints}
+use Rattle.ics_event.specs.declared.event.Event.{Event}
+use Rattle.ics_series.specs.Inner.Ended.{IsMasterAt}
+use Rattle.ics_days.specs.Spans.{always, first_at}
+use Rattle.ics_series.specs.Inner.Spans.{IsPutOff}
+use Rattle.ics_series.specs.Versions.{seen}
+use Rattle.ics_starts.specs.FileZones.{clocks_in}
+use Rattle.ics_starts.specs.Quiet.{IsQuietTo}
+use Rattle.ics_starts.specs.declared.series.Series.{Series}
+use Rattle.ics_series.proofs.GapLemmas.{moved-others}
+use Rattle.ics_series.proofs.OverLemmas.{over-still}
+use Rattle.ics_series.proofs.masters.move_off.Goals as goal
+
+pub returns : goal.returns
+returns c =
+    let ended = c.args.ended.now in
+    let series = ended.series.value in
+    let event = series.event.now in
+    let first = first_at c.args.spans.now.items ended.place in
+    let fits : to_z w64 (of_z w64 c.quiet.result) ≡ c.quiet.result = search rules in
+    let since-fits : to_z w64 (of_z w64 c.since.result) ≡ c.since.result = search rules in
+    let first-fits : to_z w64 (of_z w64 c.first_at.result) ≡ c.first_at.result = search rules in
+    let begin : c.first_at.result ≡ first_at c.args.spans.now.items c.args.ended.now.place =
+    c.first_at.ensures ∙ ap (λ xs. first_at xs ended.place) c.deref.ensures.value in
+    let uid : c.as_slice.result.now ≡ c.args.ended.now.series.value.event.now.uid =
+    c.as_slice.ensures ∙ (ap (λ (e : Event). e.uid) c.event.view_is ∙ ap (λ (e : Event). e.uid) (sym ended.own)) in
+    let put : IsPutOff (clocks_in c.args.ended.now.series.value.zones) c.args.ended.now.series.value.event.now c.args.ended.now.series.value.window
+    c.args.ended.now.series.value.since None [] c.args.spans.now.items c.args.ended.now.place c.put_span.new.spans.items =
+    record {
+      low =
+          let since : c.since.result ≡ c.args.ended.now.series.value.since =
+          c.since.ensures ∙ ap (λ (s : Series). s.since) c.deref-2.ensures in
+          let least : c.since.result ≤ℤ c.first_at.result = omega (arith, ints, c.if-first_at-since.false, since-fits, first-fits) in
+          omega (arith, ints, int_max_is always.first first, least, since, begin);
+      empty = refl;
+      span = record { first = to_z w64 (of_z w64 c.quiet.result); last = pos 9_223_372_036_854_775_807 };
+      rest = record {
+        last = refl;
+        first = subst (IsQuietTo (clocks_in series.zones) event series.window series.since) (sym fits)
+            (subst (λ (s : Series). IsQuietTo (clocks_in s.zones) s.event.now s.window s.since c.quiet.result) c.deref-3.ensures c.quiet.ensures);
+      };
+      put = c.put_span.ensures;
+    } in
+    record {
+      size = c.put_span.ensures.0;
+      others = moved-others c.args.near.now ended.place (c.is_near.ensures c.if-not-is_near.false) (inr put);
+      still = λ s day chosen over are.
+          over-still s day c.args.versions.now chosen over.0
+          (subst (IsMasterAt (map seen c.args.versions.now) ended.place) uid (c.is_master_at.ensures c.if-not-is_master_at.false)) put are;
+    }

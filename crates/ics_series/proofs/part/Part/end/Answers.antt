@@ -1,0 +1,24 @@
+use Rattle.std.proofs.Common.{◌≡◌, Vec, Global, ap, true, sym, subst}
+use Rattle.ics_starts.specs.declared.series.Series.{Series}
+use Rattle.ics_series.specs.Inner.Kept.{IsEventOfMaster, IsPartOf}
+use Rattle.ics_series.specs.Inner.Ended.{AreMovedOff, IsOverPart}
+use Rattle.ics_days.specs.declared.span.Span.{Span}
+use Rattle.ics_series.proofs.KnownLemmas.{kept-of-series}
+use Rattle.ics_series.proofs.OverLemmas.{moved-as, moved_none}
+use Rattle.ics_series.proofs.part.Part.end.Goals as goal
+use Rattle.ics_series.proofs.part.Part.end.Goals.{then-over, else-over}
+
+pub returns-clause-kept : goal.returns-clause-kept
+returns-clause-kept c = λ files display part.
+    kept-of-series files display c.into_inner.result.event.now c.into_kept.result
+    (subst (λ (s : Series). IsEventOfMaster files display s.event.now) (sym c.into_inner.ensures) (subst (IsPartOf files display) c.in-Series.is part))
+    c.into_kept.ensures
+
+pub returns-clause-spans : goal.returns-clause-spans
+returns-clause-spans c =
+    let Are = AreMovedOff c.args.versions.now c.args.near.now (λ s day. c.args.over ≡ true → IsOverPart s day c.args.self) c.args.spans.now.items in
+    elim c.if-over.branch [
+      | then-over w ↦ subst Are (sym (ap (λ (p : Vec Span Global). p.items) w.spans-is))
+          (moved-as w.move_off.ensures (λ s day known. subst (IsOverPart s day) c.in-Series.is (known w.if-over.true)))
+      | else-over w ↦ subst Are (sym (ap (λ (p : Vec Span Global). p.items) w.spans-is)) (moved_none c.args.spans.now.items)
+    ]
