@@ -194,6 +194,27 @@ def yearly_since(count, parts):
     return calendar(lines)
 
 
+def in_alike(count, names, parts, *more):
+    """So many events since the year 0001 in the last of time zones of the same observances, one of each name."""
+    lines = [line for name in names for line in zone(name, *parts)]
+    for number in range(count):
+        lines += ['BEGIN:VEVENT', 'UID:%d' % number, 'DTSTART;TZID=%s:00010701T000000' % names[-1], *more, 'END:VEVENT']
+    return calendar(lines)
+
+
+def far_apart(zones, count):
+    """So many daily events a hundred years apart in each of so many time zones of two hourly observances that fall together."""
+    lines = []
+    for number in range(zones):
+        parts = [part('STANDARD', '00010101T000000', before, after, 'RRULE:FREQ=DAILY;BYHOUR=' + HOURS)
+                 for before, after in (('-0%d00' % number, '+0%d00' % (number + 1)), ('+0%d00' % (number + 1), '-0%d00' % number))]
+        lines += zone('odd%d' % number, *parts)
+        for year in range(count):
+            lines += ['BEGIN:VEVENT', 'UID:%d-%d' % (number, year), 'DTSTART;TZID=odd%d:%04d0701T000000' % (number, 2 + 97 * year), 'RRULE:FREQ=DAILY',
+                      'END:VEVENT']
+    return calendar(lines)
+
+
 def faulty(count):
     """So many events without a start."""
     return calendar([line for number in range(count) for line in ('BEGIN:VEVENT', 'UID:%d' % number, 'END:VEVENT')])
@@ -225,6 +246,10 @@ FAR = 'RDATE;TZID=odd:' + ','.join('%04d0701T120000' % year for year in range(21
 # A month has one first Monday, and no week has two of these days.
 NO_MONDAY = 'FREQ=MONTHLY;BYDAY=1MO;BYSETPOS=2'
 NO_WEEK = 'FREQ=WEEKLY;BYMONTHDAY=1,8,15,22;BYDAY=%s;BYSETPOS=2' % WEEK
+# Steps of seven seconds, none of which is at these times on these days of the week.
+NO_SECOND = 'FREQ=SECONDLY;INTERVAL=7;BYDAY=SA,SU;%s;BYYEARDAY=%s' % (
+    by(*(','.join(str(number) for number in range(count) if number % 7 in rests) for count, rests in ((24, (0, 1, 4)), (60, (0, 2, 4)), (60, (0,))))),
+    ','.join(str(day) for day in range(1, 151)))
 PLACES = 'FREQ=MINUTELY;BYSECOND=%s;BYSETPOS=%s;COUNT=4294967295' % (EACH, EACH[2:] + ',60')
 
 # name, file, words, how many loops it may take, and how many MiB
@@ -374,6 +399,25 @@ ROWS = [
      DAY, 2, 32),
     ('56 events since the year 2 in a zone of 26 observances by places in a year, a window of ages, limit 1',
      lambda: yearly_since(56, ruled(26, 'FREQ=YEARLY;BYDAY=%s;BYSETPOS=%s' % (WEEK, ','.join(str(day) for day in range(1, 362, 30))))),
+     AGES[:2] + AGES[3:], 24, 32),
+    ('7 rules of seconds that seldom are at three times of a day, a window of ages',
+     lambda: rules(7, 'FREQ=SECONDLY;INTERVAL=28001;BYHOUR=1,9,17;BYMINUTE=0;BYSECOND=0'), AGES[:2], 1, 32),
+    ('seconds that seldom are at three minutes of an hour, a window of ages',
+     lambda: rules(1, 'FREQ=SECONDLY;INTERVAL=1009;BYMINUTE=7,27,47;BYSECOND=0'), AGES[:2], 8, 32),
+    ('seconds that never match beside days of the year, a window of ages', lambda: rules(1, NO_SECOND), AGES[:2], 1, 32),
+    ('the same under COUNT', lambda: rules(1, NO_SECOND + ';COUNT=9'), AGES[:2], 1, 32),
+    ('55 observances of weeks without a day under COUNT', lambda: in_zone(ruled(55, NO_WEEK + ';COUNT=9'), '20240701T000000'), DAY, 8, 32),
+    ('590 further dates about the start of a PERIOD of ages, each day of a hundred years by the clock of New York',
+     lambda: once_in('20200101T000000', 'RDATE;VALUE=PERIOD:20190103T000000/97900101T000000', 'RDATE:' + ','.join('2019' + at[4:] for at in stamps(590, 180))),
+     ['2024-01-01', '36525d', '--every-day', *NEW_YORK], 12, 32),
+    ('20 PERIODs of a hundred years in a time zone of its own by places in a year, DTSTART in UTC, each day of ten years',
+     lambda: calendar([*zone('odd', *ruled(1, 'FREQ=YEARLY;BYDAY=%s;BYSETPOS=366' % WEEK)), 'BEGIN:VEVENT', 'UID:0@example.org', 'DTSTART:19500101T000000Z',
+                       'RDATE;TZID=odd;VALUE=PERIOD:' + ','.join('%d0105T000000/P36525D' % year for year in range(1950, 1970)), 'END:VEVENT']),
+     ['2024-01-02', '3660d', '--every-day'], 2, 32),
+    ('2 events of 36,525 days in one of three time zones alike that turn each minute of half an hour, three days a year',
+     lambda: in_alike(2, ['even', 'odd', 'prime'], [part('STANDARD', '00010101T000000', '-0100', '+0100', 'RRULE:FREQ=YEARLY;BYMONTHDAY=1,2,3;BYMINUTE='
+                      + ','.join(str(minute) for minute in range(30)))], LONG, 'RRULE:FREQ=DAILY'), DAY, 2, 32),
+    ('8 events a hundred years apart in each of 9 time zones of hourly observances, a window of ages, limit 1', lambda: far_apart(9, 8),
      AGES[:2] + AGES[3:], 24, 32),
     ('400,000 faulty events, --keep-going', lambda: faulty(400_000), [*DAY, '--keep-going'], 12, 256),
 ]
