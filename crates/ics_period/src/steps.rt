@@ -59,8 +59,8 @@ fn least_product(parts: &EffectiveRule, second: u64, divisor: u64, factor: u64) 
     least
 }
 
-/// A number of steps of the interval, in seconds, from a local on, whose times a rule does not allow: all that come before the first whose time it
-/// does, or those of whole days if there is none.
+/// A number of steps of the interval, in seconds, from a local on, whose times of day a rule does not allow. It is made to save looks: how many of
+/// those before the first whose time is allowed it counts no clause says.
 pub fn steps_out(parts: &EffectiveRule, from: u64) -> u64
     ensures none { (k : ℕ) → k < result → lets_clock parts.now (from + k * parts.now.interval) ≡ false }
     ensures most { result ≤ 86400 }
