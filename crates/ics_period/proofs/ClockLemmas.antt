@@ -1,5 +1,5 @@
 -- Times of day that the parts of a rule let in.
-use Rattle.std.proofs.Common.{◌≡◌, ℕ, ◌+◌, ◌*◌, ◌/◌, ◌%◌, ◌<◌, ◌≤◌, true, false, ◌||◌, ◌&&◌, ◌==◌, refl, sym, ap, ◌∙◌, arith}
+use Rattle.std.proofs.Common.{◌≡◌, ℕ, ◌+◌, ◌*◌, ◌/◌, ◌%◌, ◌<◌, ◌≤◌, true, false, ◌||◌, ◌&&◌, ◌==◌, refl, sym, ◌∙◌, arith}
 use Rattle.ics_fields.specs.Sets.{contains, IsLeastFrom}
 use Rattle.ics_period.specs.declared.effective_rule.EffectiveRule.{EffectiveRule}
 use Rattle.ics_period.specs.Candidates.{lets, lets_clock}
@@ -21,9 +21,6 @@ module _ (q : EffectiveRule) (hours minutes seconds : ℕ)
     (s : (m : ℕ) → m < 60 → contains seconds m ≡ ((true || (m == 0)) && lets q.seconds m)) where
   clock_is : (n : ℕ) → has_time hours minutes seconds (n % 86_400) ≡ lets_clock q n
   clock_is n = time_at hours minutes seconds n ∙ rw (h (n / 3_600 % 24) (omega arith), i (n / 60 % 60) (omega arith), s (n % 60) (omega arith)) refl
-
-  pub in_day : (m : ℕ) → m < 86_400 → lets_clock q m ≡ has_time hours minutes seconds m
-  in_day m l = (let same : m % 86_400 ≡ m = omega (arith, l) in sym (clock_is m) ∙ ap (has_time hours minutes seconds) same)
 
   pub second_next : (n : ℕ) {t : ℕ} → t < 86_400 → IsLeastFrom (has_time hours minutes seconds) (n % 86_400) t → (m : ℕ) → n ≤ m → m < n / 86_400 * 86_400 + t →
       lets_clock q m ≡ false

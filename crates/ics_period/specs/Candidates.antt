@@ -1,5 +1,5 @@
 -- Which locals the parts of a rule but BYSETPOS, COUNT and UNTIL allow (RFC 5545, 3.3.10).
-use Rattle.std.specs.Prelude.{ℕ, ◌+◌, ◌-◌, ◌*◌, ◌/◌, ◌%◌, Bool, not, ◌&&◌, ◌||◌, ◌==◌, nat_le, nat_lt, if◌then◌else◌, pos}
+use Rattle.std.specs.Prelude.{◌≡◌, ℕ, ◌+◌, ◌-◌, ◌*◌, ◌/◌, ◌%◌, Bool, not, ◌&&◌, ◌||◌, ◌==◌, nat_le, nat_lt, if◌then◌else◌, pos, false}
 use Rattle.jiff_core.specs.Calendar.{days_in_month, days_in_year}
 use Rattle.jiff_core.specs.Weekday.{monday_zero}
 use Rattle.ics_fields.specs.declared.frequency.Frequency.{Frequency}
@@ -92,6 +92,10 @@ period_in q n = period q.frequency (monday_zero q.week_start) n
 -- p is first or later, by a multiple of the interval
 abbrev pub is_stepped : ℕ → ℕ → ℕ → Bool
 is_stepped first interval p = nat_le first p && (p - first) % interval == 0
+
+-- the rule allows no local of the period with a number
+abbrev pub IsClosed : EffectiveRule → ℕ → Type 0
+IsClosed q p = (n : ℕ) → period_in q n ≡ p → (lets_date q (day_of n) && lets_clock q n) ≡ false
 
 -- the period of n is that of the start or later, by a multiple of the interval
 abbrev pub in_step : EffectiveRule → ℕ → ℕ → Bool

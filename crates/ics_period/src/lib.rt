@@ -13,6 +13,7 @@ mod part;
 mod recurrence_period;
 mod runs;
 mod step;
+mod step_clock;
 mod steps;
 mod time;
 mod weeks;

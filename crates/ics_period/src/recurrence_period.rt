@@ -240,7 +240,7 @@ impl RecurrencePeriod {
 }
 
 /// The first minute of a day, from a minute on, in a set of hours times a set of minutes.
-fn next_minute(hours: BitSet, minutes: BitSet, at: u32) -> Option<u32>
+pub(crate) fn next_minute(hours: BitSet, minutes: BitSet, at: u32) -> Option<u32>
     requires hours { hours < 2 ^ 24 }
     requires minutes { minutes < 2 ^ 60 }
     requires at { at ≤ 1440 }

@@ -20,7 +20,7 @@ use Rattle.ics_period.specs.PeriodNumbers.{day_of, month_number, period}
 use Rattle.ics_period.specs.Candidates.{lets, lets_place, lets_date, lets_clock, is_candidate_in, in_step, period_in}
 use Rattle.ics_period.specs.Ranks.{count, is_beside, is_placed, is_chosen, rank, size}
 use Rattle.ics_period.specs.RecurrencePeriods.{month_start, first_local}
-pub use Rattle.ics_period.proofs.ClockLemmas.{same_time}
+use Rattle.ics_period.proofs.ClockLemmas.{same_time}
 use Rattle.ics_period.proofs.Counts.{count-same, count-suc, count-add, count-none, count-from, count-product, count_every, count_mono, count_most, count_some}
 use Rattle.ics_period.proofs.DateLemmas.{weekday_in, weekday_out, weekdays_alone}
 use Rattle.ics_period.proofs.MonthDays.{number_let_in}
@@ -181,7 +181,7 @@ month_place e =
     )
 
 -- by its weekdays a rule allows no fewer days
-pub weekday_open : (q : EffectiveRule) (e : ℕ) → lets_date q e ≡ true → lets_date (of_weekdays q) e ≡ true
+weekday_open : (q : EffectiveRule) (e : ℕ) → lets_date q e ≡ true → lets_date (of_weekdays q) e ≡ true
 weekday_open q e is = by (lists_no_weekday q.weekdays || contains q.weekdays.plain (weekday_of e)) refl
   where
     or_last : (a b c : Bool) → c ≡ false → (a || b || not c) ≡ true

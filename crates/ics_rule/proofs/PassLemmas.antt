@@ -1,13 +1,11 @@
 -- Steps over periods that hold nothing.
 use Rattle.std.proofs.Common.{◌≡◌, ℕ, ◌+◌, ◌-◌, ◌*◌, ◌/◌, ◌%◌, ◌<◌, ◌≤◌, inl, inr, Bool, true, false, ◌&&◌, max, sym, ap, ◌∙◌, arith}
-use Rattle.std.proofs.lemmas.Bool.{and_right, cases_lt}
+use Rattle.std.proofs.lemmas.Bool.{cases_lt}
 use Rattle.std.proofs.Math.Nat.{add-mul-mod_self_right}
 use Rattle.jiff_core.specs.Weekday.{monday_zero}
 use Rattle.ics_fields.specs.Sets.{IsLeastFrom}
-use Rattle.ics_fields.specs.declared.frequency.Frequency.TheVariants.{Secondly}
 use Rattle.ics_period.specs.declared.effective_rule.EffectiveRule.{EffectiveRule}
-use Rattle.ics_period.specs.PeriodNumbers.{day_of, period}
-use Rattle.ics_period.specs.Candidates.{lets_date, lets_clock, is_stepped, period_in}
+use Rattle.ics_period.specs.Candidates.{lets_date, lets_clock, is_stepped, period_in, IsClosed}
 use Rattle.ics_period.specs.RecurrencePeriods.{first_local}
 use Rattle.ics_rule.specs.Inner.Searches.{NoneLetIn, IsNextOpen}
 use Rattle.ics_period.proofs.PeriodLemmas.{begun, begins, period_mono}
@@ -46,16 +44,15 @@ open_on {q = q} {b = b} early late = record {
   ];
 }
 
--- steps of seconds whose time is not allowed are passed over
-pub timed_open : (q : EffectiveRule) {first step : ℕ} (out : ℕ) → q.frequency ≡ Secondly → 1 ≤ q.interval → is_stepped first q.interval step ≡ true
-    → ((k : ℕ) → k < out → lets_clock q (step + k * q.interval) ≡ false) → IsNextOpen q first step (step + out * q.interval)
-timed_open q {first = first} {step = step} out fine some stepped none = record {
+-- steps in whose periods no local is allowed are passed over
+pub timed_open : (q : EffectiveRule) {first step : ℕ} (out : ℕ) → 1 ≤ q.interval → is_stepped first q.interval step ≡ true
+    → ((k : ℕ) → k < out → IsClosed q (step + k * q.interval)) → IsNextOpen q first step (step + out * q.interval)
+timed_open q {first = first} {step = step} out some stepped none = record {
   step = (let on : step + out * i - first ≡ step - first + out * i = omega (arith, own.0) in
       stepped_shown first i (step + out * i) (omega (arith, own.0)) (ap (λ x. x % i) on ∙ add-mul-mod_self_right (step - first) out i ∙ own.1));
   low = omega arith;
   none = λ n l u on. (let found = step_between first i step some own (stepped_parts first i (period_in q n) on) l u in
-      let same = sym (ap (λ f. period f (monday_zero q.week_start) n) fine) ∙ found.1.1 in
-      and_right (lets_date q (day_of n)) (lets_clock q n) (ap (lets_clock q) same ∙ none found.0 found.1.0));
+      none found.0 found.1.0 n found.1.1);
 }
   where
     i : ℕ

@@ -1,16 +1,13 @@
-//! Rules that choose nothing.
+//! How many locals of a period a rule allows at most, and rules whose BYSETPOS therefore chooses none.
 ghost use Rattle.std.specs.Prelude.{◌≡◌, ℕ, ◌<◌, ◌≤◌, true, false};
 ghost use Rattle.ics_fields.specs.Sets.{contains_wide};
 ghost use Rattle.ics_period.specs.Ranks.{count, size, is_chosen};
 ghost use Rattle.ics_period.specs.Candidates.{lets, lets_date, lets_clock};
 ghost use Rattle.ics_rule.specs.Inner.Rounds.{seconds_of};
-ghost use Rattle.ics_rule.specs.Inner.OpenPeriods.{size_of_open, listed_in_month, listed_in_year, on_weekdays, most_days};
-ghost use Rattle.ics_rule.specs.Inner.OpenPeriods.{cycle, of_weekdays, may_let, IsClosedTo};
+ghost use Rattle.ics_rule.specs.Inner.OpenPeriods.{size_of_open, listed_in_month, listed_in_year, of_weekdays, on_weekdays, most_days};
 ghost use Rattle.ics_fields.specs.Locals.{calendar_end};
 
-use crate::pass::{next_allowed, next_open_second};
 use crate::rounds::seconds_of;
-use crate::search::Search;
 use ics_fields::{BitSet, Frequency, Ordinals, WideBitSet, WideOrdinals};
 use ics_period::{EffectiveRule, PlacesPart, clock_set, lets_date, members_below};
 
@@ -153,87 +150,4 @@ pub(crate) fn chooses_none(parts: &EffectiveRule) -> bool
     }
     let most = most_allowed(parts);
     is_past(&parts.positions.list.front, most) & is_past(&parts.positions.list.back, most)
-}
-
-/// The greatest common divisor of two numbers. No contract says that it is one: its caller tests it.
-fn common_divisor(a: u64, b: u64) -> u64 {
-    let mut divisor = a;
-    let mut rest = b;
-    while rest > 0 {
-        let next = divisor % rest;
-        divisor = rest;
-        rest = next;
-    }
-    divisor
-}
-
-/// The seconds after which the times of a rule repeat or, by week, its times and weekdays.
-fn cycle(by_week: bool) -> u64
-    ensures value { result ≡ cycle by_week }
-    ensures low { 86400 ≤ result }
-    ensures high { result ≤ 604800 }
-{
-    if by_week { 604_800 } else { 86_400 }
-}
-
-/// A local from one of the first week on, before which a rule allows none by its times or, by week, by its times and its parts of the date.
-fn next_let(parts: &EffectiveRule, from: u64, by_week: bool) -> u64
-    requires { from < 604800 }
-    ensures low { from ≤ result }
-    ensures none { (m : ℕ) → from ≤ m → m < result → may_let parts.now by_week m ≡ false }
-{
-    if by_week {
-        next_allowed(parts, from, 604_800)
-    } else {
-        next_open_second(parts, from)
-    }
-}
-
-/// Whether a rule allows no time of a day, or by week none of a week, in the units of it whose numbers leave a rest by a divisor.
-fn is_closed(parts: &EffectiveRule, by_week: bool, unit: u64, divisor: u64, rest: u64) -> bool
-    requires unit { 1 ≤ unit }
-    requires day { unit ≤ 86400 }
-    requires rest { rest < divisor }
-    requires divisor { divisor ≤ 604800 }
-    ensures { result ≡ true → IsClosedTo parts.now by_week unit divisor rest (cycle by_week) }
-{
-    let end = cycle(by_week);
-    let mut from = 0;
-    while from < end {
-        let second = next_let(parts, from, by_week);
-        if second >= end {
-            return true;
-        }
-        let place = second / unit;
-        let past = (place + (divisor - rest)) % divisor;
-        if past == 0 {
-            return false;
-        }
-        from = (place + (divisor - past)) * unit;
-    }
-    true
-}
-
-/// Whether no step has an hour, minute and second that are allowed, on a weekday that is. That is known as far as a common divisor tells of the
-/// interval and of the periods of a day or, if there is BYDAY, of a week: by it all steps leave the same rest.
-pub(crate) fn has_no_time(search: &Search<'_>) -> bool
-    ensures { result ≡ true → (n : ℕ) → n < calendar_end → is_chosen search.now.parts.now search.now.start n ≡ false }
-{
-    let parts = search.parts;
-    let unit = seconds_of(parts.frequency);
-    if unit == 0 || unit > 86_400 {
-        return false;
-    }
-    let by_week = !parts.weekdays.is_empty();
-    let periods = cycle(by_week) / unit;
-    let interval = parts.interval as u64;
-    let divisor = common_divisor(interval, periods);
-    if divisor == 0 || divisor > periods {
-        return false;
-    }
-    if interval % divisor > 0 || periods % divisor > 0 {
-        return false;
-    }
-    let rest = search.first % divisor;
-    is_closed(&of_weekdays(parts), by_week, unit, divisor, rest)
 }

@@ -8,7 +8,6 @@ ghost use Rattle.ics_fields.specs.Days.{days_before_year};
 ghost use Rattle.ics_fields.specs.Locals.{calendar_end};
 
 use crate::cursor::RULES_END;
-use crate::never::times_of_day;
 use crate::search::Search;
 use crate::walk::next_step;
 use ics_fields::Frequency;
@@ -226,28 +225,22 @@ pub(crate) fn next_open_step(
     next_step(search.first, parts.interval, period_of(parts, place))
 }
 
-/// Up to so many times of a day, steps of seconds are found by them.
-const FEW_TIMES: u64 = 256;
+/// After each so many looks in vain, a step is found by the times of a day and the weekdays.
+const SOME_LOOKS: u64 = 4;
 
-/// After each so many looks in vain, a step is found by the times of a day. That costs as much as some of these looks.
-const SOME_LOOKS: u64 = 16;
-
-/// The first step from one on whose time a rule allows, if its periods are seconds and it allows few times of a day. Else that one.
-pub(crate) fn next_timed_step(search: &Search<'_>, step: u64) -> u64
+/// The first step from one on whose time of day is allowed and whose weekday is, as far as that is known.
+pub(crate) fn next_timed_step(search: &Search<'_>, step: u64, looks: u64) -> u64
     requires { is_stepped search.now.first search.now.parts.now.interval step ≡ true }
     ensures { IsNextOpen search.now.parts.now search.now.first step result }
 {
     let parts = search.parts;
-    if step >= RULES_END || !matches!(parts.frequency, Frequency::Secondly) {
+    if step >= RULES_END {
         return step;
     }
-    if times_of_day(parts) > FEW_TIMES {
-        return step;
-    }
-    step + steps_out(parts, step) * parts.interval as u64
+    step + steps_out(parts, step, looks) * parts.interval as u64
 }
 
-/// The same. After each so many looks in vain, steps are passed over whose time is not allowed.
+/// The same. After each so many looks in vain, steps are passed over whose time or weekday is not allowed.
 pub(crate) fn next_step_after(
     search: &Search<'_>,
     period: &RecurrencePeriod,
@@ -266,5 +259,5 @@ pub(crate) fn next_step_after(
     if looks % SOME_LOOKS > 0 {
         return next;
     }
-    next_timed_step(search, next)
+    next_timed_step(search, next, looks)
 }

@@ -1,5 +1,5 @@
 //! How far a rule is known to keep nothing, without a look at another period.
-ghost use Rattle.std.specs.Prelude.{◌≡◌, ◌<◌, ◌≤◌, ◌^◌, true};
+ghost use Rattle.std.specs.Prelude.{◌<◌, ◌≤◌, ◌^◌};
 ghost use Rattle.ics_fields.specs.Locals.{calendar_end};
 ghost use Rattle.ics_rule.specs.Cursors.{HeldBy};
 ghost use Rattle.ics_rule.specs.Inner.Quiet.{NoneChosen};
@@ -8,43 +8,41 @@ ghost use Rattle.ics_period.specs.PeriodNumbers.{rules_end};
 
 use crate::cursor::{Cursor, RULES_END};
 use crate::filled::next_filled;
-use crate::never::has_no_time;
 use crate::pass::{next_allowed, next_timed_step};
 use crate::rounds::seconds_of;
 use crate::search::Search;
 use crate::walk::next_step;
 use ics_period::{first_local, period_of};
 
-/// After so many steps that allow nothing a question ends, and it is asked whether a step ever does. To pass over them costs a few times what it
-/// costs to ask anew on a later day.
+/// After so many steps that allow nothing a question ends. To pass over them costs a few times what it costs to ask anew on a later day.
 const MANY_STEPS: u32 = 64;
 
-/// After each so many steps that allow nothing, one is found by the times of a day.
-const SOME_STEPS: u32 = 8;
+/// After each so many steps that allow nothing, one is found by the times of a day and the weekdays.
+const SOME_STEPS: u32 = 4;
 
-/// The first step from a period's number on. With `by_times`, the first whose time is allowed, where that is known.
+/// The first step from a period's number on. With `by_times`, the first whose time and weekday are allowed, as far as that is known.
 #[inline]
-fn step_from(search: &Search<'_>, own: u64, by_times: bool) -> u64
+fn step_from(search: &Search<'_>, own: u64, looks: u32) -> u64
     requires { own < 2 ^ 40 }
     ensures { IsNextOpen search.now.parts.now search.now.first own result }
 {
     let step = next_step(search.first, search.parts.interval, own);
-    if by_times {
-        next_timed_step(search, step)
+    if looks % SOME_STEPS == 0 {
+        next_timed_step(search, step, u64::from(looks))
     } else {
         step
     }
 }
 
-/// The first local of the first step, from the period of a local on. With `by_times`, that of the first whose time is allowed, where that is known.
-/// The end of the rules if that is later.
-fn begin_of_step(search: &Search<'_>, n: u64, by_times: bool) -> u64
+/// The first local of the first step, from the period of a local on. With `by_times`, that of the first whose time and weekday are allowed, as far
+/// as that is known. The end of the rules if that is later.
+fn begin_of_step(search: &Search<'_>, n: u64, looks: u32) -> u64
     requires { n < calendar_end }
     ensures none { NoneChosen search.now.parts.now search.now.start n result }
     ensures inside { result ≤ rules_end }
 {
     let parts = search.parts;
-    let step = step_from(search, period_of(parts, n), by_times);
+    let step = step_from(search, period_of(parts, n), looks);
     if step > period_of(parts, RULES_END) {
         return RULES_END;
     }
@@ -64,13 +62,13 @@ fn next_by_date(search: &Search<'_>, from: u64) -> u64
             return at;
         }
         let open = next_allowed(search.parts, at, RULES_END);
-        let begin = begin_of_step(search, open, steps % SOME_STEPS == SOME_STEPS - 1);
+        let begin = begin_of_step(search, open, steps + 1);
         if begin <= open {
             return open;
         }
         at = begin;
     }
-    if has_no_time(search) { RULES_END } else { at }
+    at
 }
 
 /// The same, by BYSETPOS too: periods longer than a day are passed over that have too few allowed locals for it.

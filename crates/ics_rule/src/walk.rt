@@ -7,11 +7,9 @@ ghost use Rattle.ics_period.specs.RecurrencePeriods.{first_local};
 ghost use Rattle.ics_rule.specs.Cursors.{IsCursorIn};
 ghost use Rattle.ics_rule.specs.Inner.Searches.{IsNextWanted, IsWalk, IsWalked, LooksAt, IsTurnOf, IsTurned, IsOut};
 ghost use Rattle.ics_period.specs.PeriodNumbers.{rules_end};
-ghost use Rattle.ics_period.specs.Ranks.{is_chosen};
-ghost use Rattle.ics_fields.specs.Locals.{calendar_end};
 
 use crate::cursor::Cursor;
-use crate::never::{chooses_none, has_no_time};
+use crate::never::chooses_none;
 use crate::pass::next_step_after;
 use crate::rounds::last_to_look_at;
 use crate::search::Search;
@@ -33,16 +31,6 @@ pub(crate) fn next_step(first: u64, interval: u32, own: u64) -> u64
     } else {
         first + (own - first + (interval - 1)) / interval * interval
     }
-}
-
-/// After this many looks in vain, a search asks whether its rule can choose anything.
-const MANY_LOOKS: u64 = 1_024;
-
-/// Whether a search that has looked in vain so often is known to find nothing.
-pub(crate) fn is_vain(search: &Search<'_>, looks: u64) -> bool
-    ensures { result ≡ true → (n : ℕ) → n < calendar_end → is_chosen search.now.parts.now search.now.start n ≡ false }
-{
-    looks == MANY_LOOKS && has_no_time(search)
 }
 
 impl Cursor {
@@ -139,9 +127,6 @@ impl Cursor {
                 return if out { None } else { Some(n) };
             }
             looks = looks.saturating_add(1);
-            if is_vain(search, looks) {
-                return None;
-            }
             number = next_step_after(search, period, last, stop, looks);
         }
         None

@@ -1,5 +1,5 @@
 -- Periods of a day or less. Those that a rule allows all have the same number of locals.
-use Rattle.std.specs.Prelude.{◌≡◌, ℕ, List, length, slice_index_or, ◌+◌, ◌≤◌, ◌*◌, ◌/◌, ◌%◌, ◌<◌, Bool, not, true, false, ◌&&◌, ◌||◌, if◌then◌else◌, min}
+use Rattle.std.specs.Prelude.{◌≡◌, ℕ, List, length, slice_index_or, ◌+◌, ◌≤◌, ◌*◌, ◌/◌, ◌<◌, Bool, not, true, false, ◌&&◌, ◌||◌, if◌then◌else◌, min}
 use Rattle.ics_fields.specs.declared.frequency.Frequency.{Frequency}
 use Rattle.ics_fields.specs.declared.frequency.Frequency.TheVariants.{Secondly, Minutely, Hourly, Daily, Weekly, Monthly, Yearly}
 use Rattle.ics_fields.specs.declared.ordinals.Ordinals.{Ordinals}
@@ -7,9 +7,9 @@ use Rattle.ics_fields.specs.declared.ordinals.WideOrdinals.{WideOrdinals}
 use Rattle.ics_fields.specs.Sets.{contains, contains_wide}
 use Rattle.ics_fields.specs.Ordinals.{no_ordinals, no_wide_ordinals, lists_none, lists_none_wide}
 use Rattle.ics_period.specs.declared.effective_rule.EffectiveRule.{EffectiveRule}
-use Rattle.ics_period.specs.PeriodNumbers.{day_of, hour_of, minute_of, second_of}
+use Rattle.ics_period.specs.PeriodNumbers.{hour_of, minute_of, second_of}
 use Rattle.ics_period.specs.EffectiveRules.{skips_hours, skips_minutes, skips_seconds}
-use Rattle.ics_period.specs.Candidates.{lets, lets_date, lets_clock, is_stepped}
+use Rattle.ics_period.specs.Candidates.{lets, lets_date, is_stepped}
 use Rattle.ics_period.specs.Ranks.{count}
 use Rattle.ics_period.specs.RecurrencePeriods.{is_listed}
 use Rattle.ics_rule.specs.Inner.Rounds.{seconds_of}
@@ -90,16 +90,3 @@ chosen_of_size q false size = count size (is_listed q.positions size)
 
 abbrev pub chosen_in_open : EffectiveRule → ℕ
 chosen_in_open q = chosen_of_size q (lists_none_wide q.positions) (size_of_open q)
-
--- the seconds after which the times of a rule repeat or, by week, its times and weekdays
-abbrev pub cycle : Bool → ℕ
-cycle true = 604_800
-cycle false = 86_400
-
--- a rule allows the time of local n and, by week, its day
-abbrev pub may_let : EffectiveRule → Bool → ℕ → Bool
-may_let q by_week n = (not by_week || lets_date q (day_of n)) && lets_clock q n
-
--- so it allows no local before one, of those in the units whose numbers leave a rest by a divisor
-abbrev pub IsClosedTo : EffectiveRule → Bool → ℕ → ℕ → ℕ → ℕ → Type 0
-IsClosedTo q by_week unit divisor rest before = (m : ℕ) → m < before → m / unit % divisor ≡ rest → may_let q by_week m ≡ false

@@ -19,6 +19,3 @@ loop-steps-preserved c = record {
       (opened (goal.at.loop-steps-preserved c).After-next_allowed-open) c.begin_of_step-begin.ensures.none;
   inside = omega (arith, c.begin_of_step-begin.ensures.inside);
 }
-
-pub returns-then-has_no_time-clause-none : goal.returns-then-has_no_time-clause-none
-returns-then-has_no_time-clause-none c = λ n l u. c.has_no_time.ensures c.if-has_no_time.true n (omega (arith, u))

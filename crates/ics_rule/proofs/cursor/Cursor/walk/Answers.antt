@@ -6,7 +6,7 @@ use Rattle.ics_rule.specs.Inner.Searches.{IsTurned, IsWalked}
 use Rattle.ics_rule.proofs.ChosenLemmas.{taken_within}
 use Rattle.ics_rule.proofs.CursorLemmas.{held_is}
 use Rattle.ics_rule.proofs.WalkLemmas.{walk_ends, walk_finds, walk_found, walk_goes_on, walk_out, walk_reach, walk_stopped, walk_stops}
-use Rattle.ics_rule.proofs.NeverLemmas.{none_wanted, none_walked}
+use Rattle.ics_rule.proofs.NeverLemmas.{none_walked}
 use Rattle.ics_rule.proofs.cursor.Cursor.walk.Goals as goal
 use Rattle.ics_rule.proofs.cursor.Cursor.walk.Goals.{In-Some, In-Some-next_taken}
 
@@ -57,14 +57,6 @@ returns-else-out-clause-next c =
 
 pub returns-else-out-clause-walked : goal.returns-else-out-clause-walked
 returns-else-out-clause-walked c = found (goal.at.returns-else-out-clause-walked c).In-Some-next_taken
-
-pub returns-then-is_vain-clause-next : goal.returns-then-is_vain-clause-next
-returns-then-is_vain-clause-next c = none_wanted c.args.search.now.parts.now c.args.search.now.start c.args.count c.args.self.now.place
-    c.requires.stop (c.is_vain.ensures c.if-is_vain.true)
-
-pub returns-then-is_vain-clause-walked : goal.returns-then-is_vain-clause-walked
-returns-then-is_vain-clause-walked c = let at = goal.at.returns-then-is_vain-clause-walked c in
-    walk_stopped c.loop-number.invariant (own at.In-Some) c.turn_to.ensures.looks (top at.In-Some)
 
 pub loop-number-preserved : goal.loop-number-preserved
 loop-number-preserved c =
