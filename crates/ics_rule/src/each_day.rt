@@ -1,5 +1,5 @@
 //! How many periods shorter than a day a rule allows, where it allows few days: those of each such day are added.
-ghost use Rattle.std.specs.Prelude.{◌≡◌, ℕ, true, false, length, slice_index_or, ◌<◌, ◌≤◌, ◌+◌, ◌*◌};
+ghost use Rattle.std.specs.Prelude.{◌≡◌, ℕ, true, false, length, slice_index_or, MatchOption, ◌<◌, ◌≤◌, ◌+◌, ◌*◌};
 ghost use Rattle.ics_fields.specs.Days.{days_before_year};
 ghost use Rattle.ics_period.specs.Ranks.{count};
 ghost use Rattle.ics_rule.specs.Inner.Rounds.{seconds_of};
@@ -55,39 +55,37 @@ fn steps_on(search: &Search<'_>, day: u64) -> u64
     steps_let_in(search, day * per_day, (day + 1) * per_day)
 }
 
-/// The same of as many days as the interval has, from one on. They are not counted if these are many.
-fn steps_by_rest(search: &Search<'_>, from: u64) -> [u32; RESTS]
+/// The same of as many days as the interval has, from one on. They are not counted if these are many, or more than those before another day.
+fn steps_by_rest(search: &Search<'_>, from: u64, before: u64) -> Option<[u32; RESTS]>
     requires fine { 0 < seconds_of search.now.parts.now.frequency }
     requires unit { seconds_of search.now.parts.now.frequency ≤ 86400 }
     requires from { from ≤ days_before_year 9_801 + 1 }
-    ensures { HasRests search.now.parts.now search.now.first from result }
+    ensures { MatchOption result (Unit {0}) (HasRests search.now.parts.now search.now.first from) }
 {
-    let mut steps = [0; RESTS];
     let interval = search.parts.interval as usize;
-    if interval > RESTS {
-        return steps;
+    if interval > RESTS || interval as u64 > before.saturating_sub(from) {
+        return None;
     }
+    let mut steps = [0; RESTS];
     for j in 0..interval {
         steps[j] = steps_on(search, from + j as u64) as u32;
     }
-    steps
+    Some(steps)
 }
 
 /// The same of a day, by those of the days from one on.
-fn steps_at(search: &Search<'_>, steps: &[u32], from: u64, day: u64) -> u64
+fn steps_at(search: &Search<'_>, steps: &Option<[u32; RESTS]>, from: u64, day: u64) -> u64
     requires fine { 0 < seconds_of search.now.parts.now.frequency }
     requires unit { seconds_of search.now.parts.now.frequency ≤ 86400 }
     requires first { search.now.first < from * per_day search.now.parts.now.frequency }
     requires order { from ≤ day }
     requires day { day ≤ days_before_year 9_801 + 1 }
-    requires steps { HasRests search.now.parts.now search.now.first from steps.now }
+    requires steps { MatchOption steps.now (Unit {0}) (HasRests search.now.parts.now search.now.first from) }
     ensures { result ≡ timely_on search.now.parts.now search.now.first day }
 {
-    let interval = search.parts.interval as u64;
-    if interval > RESTS as u64 {
-        steps_on(search, day)
-    } else {
-        steps[((day - from) % interval) as usize] as u64
+    match steps {
+        None => steps_on(search, day),
+        Some(steps) => steps[((day - from) % search.parts.interval as u64) as usize] as u64,
     }
 }
 
@@ -102,7 +100,7 @@ pub(crate) fn open_of_each(search: &Search<'_>, from: u64, before: u64) -> u64
         ≡ count (before * per_day search.now.parts.now.frequency) (is_open_period search.now.parts.now search.now.first) }
 {
     let parts = search.parts;
-    let steps = steps_by_rest(search, from);
+    let steps = steps_by_rest(search, from, before);
     let mut near = NearDays::new(if lists_days(parts) { 0 } else { u32::MAX });
     let mut total = 0;
     let mut day = from;

@@ -44,10 +44,10 @@ is_timely q first p = is_stepped first q.interval p && lets_own q.frequency q (p
 abbrev pub timely_on : EffectiveRule → ℕ → ℕ → ℕ
 timely_on q first day = count (per_day q.frequency) (λ k. is_timely q first (day * per_day q.frequency + k))
 
--- the numbers of those of each day from one on, so many days as the interval has, if these are few
+-- the numbers of those of each day from one on, so many days as the interval has
 abbrev pub HasRests : EffectiveRule → ℕ → ℕ → List ℕ → Type 0
 HasRests q first from steps =
-    (length steps ≡ 1_024) × (q.interval ≤ 1_024 → (k : ℕ) → k < q.interval → slice_index_or steps k 0 ≡ timely_on q first (from + k))
+    (q.interval ≤ length steps) × ((k : ℕ) → k < q.interval → slice_index_or steps k 0 ≡ timely_on q first (from + k))
 
 -- a period is a multiple of the interval after the first, and the rule allows a local of it
 abbrev pub is_open_period : EffectiveRule → ℕ → ℕ → Bool
