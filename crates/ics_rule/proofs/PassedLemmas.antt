@@ -1,5 +1,5 @@
 -- What looks up to its place leave of a cursor under COUNT.
-use Rattle.std.proofs.Common.{◌≡◌, ℕ, ◌+◌, ◌-◌, ◌*◌, ◌<◌, ◌≤◌, true, false, Some, min, refl, sym}
+use Rattle.std.proofs.Common.{◌≡◌, ℕ, ◌+◌, ◌-◌, ◌*◌, ◌<◌, ◌≤◌, true, false, Option, None, min, refl, sym}
 use Rattle.std.proofs.Common.{subst, ap, ◌∙◌, arith}
 use Rattle.std.proofs.lemmas.Bool.{cases_lt}
 use Rattle.std.proofs.lemmas.Bool.Decides.{nat_tests}
@@ -10,14 +10,14 @@ use Rattle.ics_rule.specs.declared.cursor.Cursor.{Cursor}
 use Rattle.ics_period.specs.Candidates.{is_stepped, period_in}
 use Rattle.ics_period.specs.Ranks.{count, is_chosen}
 use Rattle.ics_period.specs.RecurrencePeriods.{first_local, IsPeriodOf}
-use Rattle.ics_rule.specs.Cursors.{fresh, IsCursorIn}
-use Rattle.ics_rule.specs.Inner.Searches.{is_chosen_within, IsNextOpen, after_look}
+use Rattle.ics_rule.specs.Cursors.{fresh}
+use Rattle.ics_rule.specs.Inner.Searches.{is_chosen_within, IsNextOpen, IsTurned, IsUnderCount, IsWalked, after_look}
 use Rattle.ics_rule.specs.Inner.Rounds.{IsEvenRound, IsPassedTo, CountsFrom, HasCountedTo}
 use Rattle.std.proofs.Math.Nat.{mul-le-mul_right}
 use Rattle.ics_period.proofs.PeriodLemmas.{begun, period_mono}
 use Rattle.ics_period.proofs.Counts.{count_most}
 use Rattle.ics_rule.proofs.CountLemmas.{IsCountedStep, none_before_first}
-use Rattle.ics_rule.proofs.RoundLemmas.{repeats_often}
+use Rattle.ics_rule.proofs.RoundLemmas.{repeats_often, step_repeats}
 use Rattle.ics_rule.proofs.StepLemmas.{stepped_parts, none_between}
 use Rattle.ics_rule.proofs.CursorLemmas.{meets, moved_on, own_moved, looks_once}
 use Rattle.ics_rule.proofs.WalkLemmas.{step_first}
@@ -39,40 +39,63 @@ pub not_past : {q : EffectiveRule} {first number next end : ℕ} → 1 ≤ q.int
     → IsNextOpen q first (number + q.interval) next → IsNextOpen q first (number + q.interval) (min end next)
 not_past some here there h is_next = grind (arith, cases_lt, here, none_between)
 
+-- a walk that turns to the period of the place or an earlier one
+pub passed_to : {q : EffectiveRule} {start number : ℕ} {o : Option ℕ} {before after : Cursor} {p : RecurrencePeriod} → IsTurned q start o number after p →
+    IsWalked q start o (before.place + 1) None before after → number ≤ period_in q before.place → before.place < calendar_end
+    → HasCountedTo q start o number before after
+passed_to {q = q} {before = before} {after = after} {p = p} turned walked top inside =
+    let moved = walked.moved in
+    let place = ap (period_in q) moved.place in record {
+      period = p;
+      turned = turned;
+      passed = record {
+        own = own_moved {n = after.place} after.place moved (rw turned.held (turned.product, omega (arith, turned.number, top, place))) (omega arith)
+            walked.counted (omega (arith, moved.place, inside));
+        moved = moved;
+      };
+    }
+
 -- and looks on, at a later step
-pub passed_on : {q : EffectiveRule} {start c number target total : ℕ} {before after now : Cursor} {p : RecurrencePeriod} →
-    HasCountedTo q start c number before after → IsCountedStep q start number target before.place total → start < before.place
-    → before.place < calendar_end → now ≡ after_look after p total → IsPeriodOf q p × (p.number ≡ target) → IsPassedTo q start c before now
-passed_on {q = q} {start = start} {c = c} {target = target} {total = total} {before = before} {after = after} {p = p} to is late inside e own =
+pub passed_on : {q : EffectiveRule} {start number target total : ℕ} {o : Option ℕ} {before after now : Cursor} {p : RecurrencePeriod} →
+    IsUnderCount q start o before → HasCountedTo q start o number before after → IsCountedStep q start number target before.place total
+    → now ≡ after_look after p total → IsPeriodOf q p × (p.number ≡ target) → IsPassedTo q start o before now
+passed_on {q = q} {start = start} {target = target} {total = total} {before = before} {after = after} {p = p} under counted is e own =
     let same = own.1 in
+    let to = rw under.some at counted in
     let fresh_target = subst (λ o. fresh o ≤ target) (sym to.turned.held) (omega (arith, to.turned.number, is.later)) in
-    let moved = moved_on to.walked.moved (looks_once total after p fresh_target refl same) (λ a b l few.
+    let moved = moved_on to.passed.moved (looks_once total after p fresh_target refl same) (λ a b l few.
     meets q start a b {place = start} {stop = before.place + 1}
-    few.low (omega (arith, late)) l is.step (stepped_parts (period_in q start) q.interval target is.step).0
+    few.low (omega (arith, under.after)) l is.step (stepped_parts (period_in q start) q.interval target is.step).0
     (top_of q before.place target is.top)) in
-    let place = ap (period_in q) to.walked.moved.place in
-    subst (IsPassedTo q start c before) (sym e) (record {
+    let place = ap (period_in q) to.passed.moved.place in
+    rw (e, under.some) (record {
       own = own_moved {n = after.place} after.place moved (own.0, omega (arith, same, is.top, place)) (omega arith) (record {
         step = ap (is_stepped (period_in q start) q.interval) same ∙ is.step;
         total = is.total ∙ ap (λ x. count (first_local q.frequency (monday_zero q.week_start) x) (is_chosen q start)) (sym same);
         most = to.turned.counted.most;
-      }) (omega (arith, moved.place, inside));
+      }) (omega (arith, moved.place, under.own.inside));
       moved = moved;
     })
 
 -- steps are few
-pub turned_room : {q : EffectiveRule} {start c number : ℕ} {before after : Cursor} → HasCountedTo q start c number before after →
+pub turned_room : {q : EffectiveRule} {start number : ℕ} {o : Option ℕ} {before after : Cursor} → HasCountedTo q start o number before after →
     after.steps ≤ number + 1
-turned_room {after = after} to = let few = subst (λ x. after.steps ≤ fresh x) to.turned.held to.walked.moved.steps in omega (arith, few, to.turned.number)
+turned_room {after = after} to = let few = subst (λ x. after.steps ≤ fresh x) to.turned.held to.passed.moved.steps in omega (arith, few, to.turned.number)
 
 -- the period from which rounds are counted
 pub record IsRoundsBegin (q : EffectiveRule) (start begin before : ℕ) : Type 0 where
   pub step : is_stepped (period_in q start) q.interval begin ≡ true
   pub total : before ≡ count (first_local q.frequency (monday_zero q.week_start) begin) (is_chosen q start)
 
-pub counts_from : {q : EffectiveRule} {start c first begin before : ℕ} {cursor : Cursor} → 1 ≤ q.interval → IsCursorIn q start (Some c) cursor →
+pub counts_from : {q : EffectiveRule} {start first begin before : ℕ} {o : Option ℕ} {cursor : Cursor} → 1 ≤ q.interval → IsUnderCount q start o cursor →
     first ≡ period_in q start → CountsFrom first begin before cursor → IsRoundsBegin q start begin before
-counts_from some own ef is = grind (arith, none_before_first, step_first)
+counts_from some under ef is = let counted = rw under.some at under.own.counted in grind (arith, none_before_first, step_first)
+
+-- some steps later is a step
+pub steps_on : {q : EffectiveRule} {start begin before : ℕ} (steps : ℕ) → IsRoundsBegin q start begin before →
+    is_stepped (period_in q start) q.interval (begin + q.interval * steps) ≡ true
+steps_on {q = q} {start = start} {begin = begin} steps from =
+    step_repeats q.interval steps (period_in q start) begin (stepped_parts (period_in q start) q.interval begin from.step).0 ∙ from.step
 
 -- where the first round ends, and the last
 pub first_step : {q : EffectiveRule} {start begin before round : ℕ} → IsEvenRound q start round → IsRoundsBegin q start begin before →

@@ -43,16 +43,17 @@ pub step_first : (f i : ℕ) → 1 ≤ i → is_stepped f i f ≡ true
 step_first f i some = stepped_shown f i f (omega arith) (let none : f - f ≡ 0 * i + 0 = omega arith in ap (λ x. x % i) none ∙ mod-mul-add 0 i 0 some)
 
 -- under COUNT it begins at the period held, up to which what is chosen is counted, or at the start's
-pub walk_counts : {q : EffectiveRule} {start c : ℕ} {before cursor : Cursor} {first number stop : ℕ} → IsPassedTo q start c before cursor →
-    first ≡ period_in q start → MatchOption cursor.held (number ≡ first) (λ p. number ≡ p.number)
-    → 1 ≤ q.interval → start < before.place → before.place < stop → IsWalk q start (Some c) stop number before cursor
-walk_counts {q = q} {start = start} {before = before} {cursor = cursor} {number = number} {stop = stop} passed ef is some late early =
-    let own = passed.own in
-    let m = passed.moved in
+pub walk_counts : {q : EffectiveRule} {start c : ℕ} {o : Option ℕ} {before cursor : Cursor} {first number stop : ℕ} → o ≡ Some c →
+    IsPassedTo q start o before cursor → first ≡ period_in q start → MatchOption cursor.held (number ≡ first) (λ p. number ≡ p.number)
+    → 1 ≤ q.interval → start < before.place → before.place < stop → IsWalk q start o stop number before cursor
+walk_counts {q = q} {start = start} {before = before} {cursor = cursor} {number = number} {stop = stop} under passed ef is some late early =
+    let own = rw under at passed.own in
+    let m = rw under at passed.moved in
     let place = m.place in
     let from = period_mono q.frequency (monday_zero q.week_start) start before.place (omega (arith, late)) in
     let step : is_stepped (period_in q start) q.interval number ≡ true = grind (arith, step_first) in
-    let top : number ≤ period_in q before.place = grind arith in record {
+    let top : number ≤ period_in q before.place = grind arith in
+    rw under (record {
       some = some;
       late = omega (arith, late);
       early = early;
@@ -62,7 +63,7 @@ walk_counts {q = q} {start = start} {before = before} {cursor = cursor} {number 
       held = held_mono q cursor.held cursor.place stop own.held (omega (arith, place, early));
       turn = record { held = grind arith; counted = own.counted; passed = grind arith };
       moved = record { place = m.place; looks = m.looks; begun = m.begun; steps = m.steps; looked = λ a b s few. m.looked a b (omega (arith, early, s)) few };
-    }
+    })
 
 -- nothing is chosen between a step and the next that may be open
 module _ {q : EffectiveRule} (start : ℕ) (some : 1 ≤ q.interval) where

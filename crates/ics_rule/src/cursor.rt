@@ -10,7 +10,7 @@ use crate::never::chooses_none;
 use crate::rule::Rule;
 use crate::search::Search;
 use ics_fields::{Local, Until};
-use ics_period::{Kind, RecurrencePeriod, period_of};
+use ics_period::{Kind, RecurrencePeriod};
 
 /// 9801-01-01T00:00:00, the end of the rules.
 pub(crate) const RULES_END: u64 = 309_289_708_800;
@@ -94,12 +94,7 @@ impl Cursor {
         ensures next { IsNextWanted (effective rule.now) start rule.now.parts.count self.old.place stop result }
         ensures walked { IsWalked (effective rule.now) start rule.now.parts.count stop result self.old self.new }
     {
-        let search = Search {
-            parts: &rule.whole,
-            start,
-            first: period_of(&rule.whole, start),
-        };
-        self.walk(&search, rule.given.count, stop)
+        self.walk(&Search::of(rule, start), stop)
     }
 
     /// The number of the next local that the rule keeps, from the place on and earlier than `end`.
@@ -197,12 +192,8 @@ impl Cursor {
         if stop <= self.place {
             return RULES_END;
         }
-        let search = Search {
-            parts: &rule.whole,
-            start,
-            first: period_of(&rule.whole, start),
-        };
-        if self.is_counted_out(search.parts, rule.given.count, self.place) {
+        let search = Search::of(rule, start);
+        if self.is_counted_out(&search, self.place) {
             return RULES_END;
         }
         if chooses_none(search.parts) {

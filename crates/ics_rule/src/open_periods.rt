@@ -238,12 +238,15 @@ fn chosen_in_open(parts: &EffectiveRule) -> u64
 /// Up to this many steps are looked at one by one.
 const A_SHORT_WALK: u64 = 64;
 
+/// So many steps that may be allowed are looked at before periods are counted by days.
+const FEW_LOOKS: u32 = 32;
+
 impl Cursor {
     /// Counts the periods from the one held, or from the start's, up to that of the place, if a period is a day or less, and looks at the
-    /// last of them. Nothing changes if they are few.
-    pub(crate) fn pass_open(&mut self, search: &Search<'_>, count: u32)
-        requires cursor { IsUnderCount search.now.parts.now search.now.start count self.old }
-        ensures { IsPassedTo search.now.parts.now search.now.start count self.old self.new }
+    /// last of them. Some that the rule may allow are looked at first, and those after them are counted by days. Nothing changes if they are few.
+    pub(crate) fn pass_open(&mut self, search: &Search<'_>)
+        requires cursor { IsUnderCount search.now.parts.now search.now.start search.now.count self.old }
+        ensures { IsPassedTo search.now.parts.now search.now.start search.now.count self.old self.new }
     {
         let parts = search.parts;
         let unit = seconds_of(parts.frequency);
@@ -256,10 +259,13 @@ impl Cursor {
         if steps < A_SHORT_WALK {
             return;
         }
-        if !self.turn_through(search, count, begin, begin) {
+        let last = begin + interval * steps;
+        let Some(begin) = self.turn_through(search, begin, last, FEW_LOOKS) else {
+            return;
+        };
+        if begin == last {
             return;
         }
-        let last = begin + steps * interval;
         let number = open_between(search, begin, last);
         let total = self.counted + chosen_in_open(parts) * number;
         self.look_at(parts, last, total);

@@ -199,26 +199,26 @@ impl Cursor {
 
     /// Counts what is chosen in the periods up to that of the place, and looks at one of the last of them: by whole rounds if these are
     /// short or a period is longer than a day, and else by whole days. Nothing changes if neither can be done.
-    pub(crate) fn pass_periods(&mut self, search: &Search<'_>, count: u32)
-        requires cursor { IsUnderCount search.now.parts.now search.now.start count self.old }
-        ensures { IsPassedTo search.now.parts.now search.now.start count self.old self.new }
+    pub(crate) fn pass_periods(&mut self, search: &Search<'_>)
+        requires cursor { IsUnderCount search.now.parts.now search.now.start search.now.count self.old }
+        ensures { IsPassedTo search.now.parts.now search.now.start search.now.count self.old self.new }
     {
         if self.is_close(search.parts) {
             return;
         }
         let unit = seconds_of(search.parts.frequency);
         if unit == 0 || unit > 86_400 || repeats_soon(search) {
-            self.pass_rounds(search, count);
+            self.pass_rounds(search);
         } else {
-            self.pass_open(search, count);
+            self.pass_open(search);
         }
     }
 
     /// Counts the first round, from the period held or from the start's on. Then looks at the last period up to the place that is whole
     /// rounds after it. Nothing changes, or the first round is looked at, if fewer than two are left.
-    fn pass_rounds(&mut self, search: &Search<'_>, count: u32)
-        requires cursor { IsUnderCount search.now.parts.now search.now.start count self.old }
-        ensures { IsPassedTo search.now.parts.now search.now.start count self.old self.new }
+    fn pass_rounds(&mut self, search: &Search<'_>)
+        requires cursor { IsUnderCount search.now.parts.now search.now.start search.now.count self.old }
+        ensures { IsPassedTo search.now.parts.now search.now.start search.now.count self.old self.new }
     {
         let (begin, before) = self.counted_from(search.first);
         let ahead = period_of(search.parts, self.place).saturating_sub(begin);
@@ -233,7 +233,10 @@ impl Cursor {
             return;
         }
         let end = begin + round;
-        if !self.turn_through(search, count, begin, end) {
+        let Some(number) = self.turn_through(search, begin, end, u32::MAX) else {
+            return;
+        };
+        if number != end {
             return;
         }
         let total = before + rounds * (self.counted - before);

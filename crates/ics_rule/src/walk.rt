@@ -36,21 +36,20 @@ pub(crate) fn next_step(first: u64, interval: u32, own: u64) -> u64
 impl Cursor {
     /// Turns to the period with a number, and looks at it unless it is the one held. False, and nothing changes, if all that COUNT keeps
     /// is earlier.
-    pub(crate) fn turn_to(&mut self, search: &Search<'_>, count: Option<u32>, number: u64) -> bool
-        requires count { MatchOption count (Unit {0}) (λ c. 1 ≤ c) }
+    pub(crate) fn turn_to(&mut self, search: &Search<'_>, number: u64) -> bool
         requires start { search.now.start < rules_end }
         requires step { is_stepped (period_in search.now.parts.now search.now.start) search.now.parts.now.interval number ≡ true }
         requires reach { first_local search.now.parts.now.frequency (monday_zero search.now.parts.now.week_start) number ≤ rules_end }
         requires room { self.old.steps < 2 ^ 63 }
-        requires turn { IsTurnOf search.now.parts.now search.now.start count number self.old }
+        requires turn { IsTurnOf search.now.parts.now search.now.start search.now.count number self.old }
         ensures looks { LooksAt number self.old self.new }
-        ensures turned { result ≡ true → MatchOption self.new.held ⊥ (IsTurned search.now.parts.now search.now.start count number self.new) }
-        ensures out { result ≡ false → IsOut search.now.parts.now search.now.start count number self.old self.new }
+        ensures turned { result ≡ true → MatchOption self.new.held ⊥ (IsTurned search.now.parts.now search.now.start search.now.count number self.new) }
+        ensures out { result ≡ false → IsOut search.now.parts.now search.now.start search.now.count number self.old self.new }
     {
         let parts = search.parts;
         let Some(period) = &self.held else {
             self.look_at(parts, number, 0);
-            let Some(count) = count else {
+            let Some(count) = search.count else {
                 return true;
             };
             let Some(period) = &self.held else {
@@ -63,7 +62,7 @@ impl Cursor {
         if period.number() == number {
             return true;
         }
-        let Some(_) = count else {
+        let Some(_) = search.count else {
             self.look_at(parts, number, 0);
             return true;
         };
@@ -77,19 +76,18 @@ impl Cursor {
 
     /// The period that a walk begins with: the first step from the place on. Under COUNT it is that of the start or the one held, once what is
     /// chosen before the place is counted by whole rounds or days.
-    fn first_step(&mut self, search: &Search<'_>, count: Option<u32>, own: u64) -> u64
-        requires count { MatchOption count (Unit {0}) (λ c. 1 ≤ c) }
+    fn first_step(&mut self, search: &Search<'_>, own: u64) -> u64
         requires after { search.now.start < self.old.place }
         requires early { self.old.place < rules_end }
         requires period { own ≡ period_in search.now.parts.now self.old.place }
         requires small { own < 2 ^ 40 }
-        requires cursor { IsCursorIn search.now.parts.now search.now.start count self.old }
-        ensures { (stop : ℕ) → self.old.place < stop → IsWalk search.now.parts.now search.now.start count stop result self.old self.new }
+        requires cursor { IsCursorIn search.now.parts.now search.now.start search.now.count self.old }
+        ensures { (stop : ℕ) → self.old.place < stop → IsWalk search.now.parts.now search.now.start search.now.count stop result self.old self.new }
     {
-        match count {
+        match search.count {
             None => next_step(search.first, search.parts.interval, own),
-            Some(count) => {
-                self.pass_periods(search, count);
+            Some(_) => {
+                self.pass_periods(search);
                 self.counted_from(search.first).0
             }
         }
@@ -97,14 +95,13 @@ impl Cursor {
 
     /// The next local from the place on that the rule chooses and COUNT keeps. It is searched for in the periods up to that of the last
     /// local before `stop`.
-    pub(crate) fn walk(&mut self, search: &Search<'_>, count: Option<u32>, stop: u64) -> Option<u64>
-        requires count { MatchOption count (Unit {0}) (λ c. 1 ≤ c) }
+    pub(crate) fn walk(&mut self, search: &Search<'_>, stop: u64) -> Option<u64>
         requires after { search.now.start < self.old.place }
         requires place { self.old.place < stop }
         requires stop { stop ≤ rules_end }
-        requires own { IsCursorIn search.now.parts.now search.now.start count self.old }
-        ensures next { IsNextWanted search.now.parts.now search.now.start count self.old.place stop result }
-        ensures walked { IsWalked search.now.parts.now search.now.start count stop result self.old self.new }
+        requires own { IsCursorIn search.now.parts.now search.now.start search.now.count self.old }
+        ensures next { IsNextWanted search.now.parts.now search.now.start search.now.count self.old.place stop result }
+        ensures walked { IsWalked search.now.parts.now search.now.start search.now.count stop result self.old self.new }
     {
         let parts = search.parts;
         if chooses_none(parts) {
@@ -113,17 +110,17 @@ impl Cursor {
         let own = period_of(parts, self.place);
         let last = period_of(parts, stop - 1);
         let end = last_to_look_at(search, own, last);
-        let mut number = self.first_step(search, count, own);
+        let mut number = self.first_step(search, own);
         let mut looks: u64 = 0;
         while number <= end {
-            if !self.turn_to(search, count, number) {
+            if !self.turn_to(search, number) {
                 return None;
             }
             let Some(period) = &self.held else {
                 return None;
             };
             if let Some(n) = period.next_taken(&parts.positions, self.place) {
-                let out = self.is_counted_out(parts, count, n);
+                let out = self.is_counted_out(search, n);
                 return if out { None } else { Some(n) };
             }
             looks = looks.saturating_add(1);

@@ -1,5 +1,5 @@
 -- Rounds of periods. After a round, what a rule chooses repeats.
-use Rattle.std.specs.Prelude.{◌≡◌, ℕ, ◌+◌, ◌-◌, ◌*◌, ◌%◌, ◌≤◌, ◌&&◌, Some, None, MatchOption, true, false}
+use Rattle.std.specs.Prelude.{◌≡◌, ℕ, ◌+◌, ◌-◌, ◌*◌, ◌%◌, ◌≤◌, ◌&&◌, Option, MatchOption, true, false}
 use Rattle.jiff_core.specs.Weekday.{monday_zero}
 use Rattle.ics_fields.specs.declared.frequency.Frequency.{Frequency}
 use Rattle.ics_fields.specs.declared.frequency.Frequency.TheVariants.{Secondly, Minutely, Hourly, Daily, Weekly, Monthly, Yearly}
@@ -13,7 +13,7 @@ use Rattle.ics_period.specs.Candidates.{lets_date, lets_clock, is_stepped, perio
 use Rattle.ics_period.specs.Ranks.{count, is_chosen}
 use Rattle.ics_period.specs.RecurrencePeriods.{first_local}
 use Rattle.ics_rule.specs.Cursors.{IsCursorIn}
-use Rattle.ics_rule.specs.Inner.Searches.{HasMoved, IsWalked, IsTurned}
+use Rattle.ics_rule.specs.Inner.Searches.{HasMoved, IsTurned}
 use Rattle.ics_period.specs.Runs.{goes_by_months}
 
 -- how many seconds each period of a frequency has, or 0 if they differ
@@ -87,16 +87,16 @@ pub record HasRound (q : EffectiveRule) (begin end : ℕ) : Type 0 where
   pub some : 1 ≤ begin
   pub far : begin + periods ≤ end
 
--- how looks up to its place change a cursor under COUNT c
-pub record IsPassedTo (q : EffectiveRule) (start c : ℕ) (before now : Cursor) : Type 0 where
-  pub own : IsCursorIn q start (Some c) now
-  pub moved : HasMoved q start (Some c) (before.place + 1) before now
+-- how looks up to its place change a cursor
+pub record IsPassedTo (q : EffectiveRule) (start : ℕ) (o : Option ℕ) (before now : Cursor) : Type 0 where
+  pub own : IsCursorIn q start o now
+  pub moved : HasMoved q start o (before.place + 1) before now
 
 -- the period with a number is turned to, and what is chosen before it is counted
-pub record HasCountedTo (q : EffectiveRule) (start c number : ℕ) (before now : Cursor) : Type 0 where
+pub record HasCountedTo (q : EffectiveRule) (start : ℕ) (o : Option ℕ) (number : ℕ) (before now : Cursor) : Type 0 where
   pub period : RecurrencePeriod
-  pub turned : IsTurned q start (Some c) number now period
-  pub walked : IsWalked q start (Some c) (before.place + 1) None before now
+  pub turned : IsTurned q start o number now period
+  pub passed : IsPassedTo q start o before now
 
 -- the period that a cursor counts on from, and how many locals are chosen before it: that of the period held, or the first
 pub record CountsFrom (first begin before : ℕ) (cursor : Cursor) : Type 0 where

@@ -75,12 +75,13 @@ pub record LooksAt (number : ℕ) (before now : Cursor) : Type 0 where
   pub begun : HasBegun before.held before.steps → HasBegun now.held now.steps
   pub steps : (met : ℕ → Bool) → met number ≡ true → before.steps ≤ count (fresh before.held) met → now.steps ≤ count (fresh now.held) met
 
--- a cursor under COUNT c, past the start and before the end of the rules
-pub record IsUnderCount (q : EffectiveRule) (start c : ℕ) (cursor : Cursor) : Type 0 where
-  pub some : 1 ≤ c
+-- a cursor under COUNT, past the start and before the end of the rules
+pub record IsUnderCount (q : EffectiveRule) (start : ℕ) (o : Option ℕ) (cursor : Cursor) : Type 0 where
+  pub count : ℕ
+  pub some : o ≡ Some count
   pub after : start < cursor.place
   pub early : cursor.place < rules_end
-  pub own : IsCursorIn q start (Some c) cursor
+  pub own : IsCursorIn q start o cursor
 
 -- nothing is chosen in the periods from one number on and before another
 pub record IsPassed (q : EffectiveRule) (start from before : ℕ) : Type 0 where

@@ -7,14 +7,9 @@ returns-in-None c = λ stop h. rw c.in-None.is (walk_begins c.args.search.now.in
 
 pub pass_periods-requires : goal.pass_periods-requires
 pass_periods-requires c = record {
-  cursor = record {
-    some = rw c.in-Some.is at c.requires.count;
-    after = c.requires.after;
-    early = c.requires.early;
-    own = rw c.in-Some.is at c.requires.cursor;
-  };
+  cursor = record { count = _; some = c.in-Some.is; after = c.requires.after; early = c.requires.early; own = c.requires.cursor };
 }
 
 pub returns-in-Some : goal.returns-in-Some
-returns-in-Some c = λ stop h. rw c.in-Some.is (walk_counts c.pass_periods.ensures c.args.search.now.of_start
-    c.counted_from.ensures.number c.args.search.now.interval c.requires.after h)
+returns-in-Some c = λ stop h. walk_counts c.in-Some.is c.pass_periods.ensures c.args.search.now.of_start
+    c.counted_from.ensures.number c.args.search.now.interval c.requires.after h

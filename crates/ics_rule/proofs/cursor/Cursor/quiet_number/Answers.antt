@@ -1,7 +1,6 @@
 use Rattle.std.proofs.Common.{◌≡◌, ℕ, ◌<◌, nat_lt, arith}
 use Rattle.ics_fields.specs.Locals.{number}
 use Rattle.ics_period.specs.PeriodNumbers.{rules_end}
-use Rattle.ics_rule.specs.Cursors.{CountedBy}
 use Rattle.ics_period.specs.EffectiveRules.{effective}
 use Rattle.ics_rule.specs.Kept.{is_by_until}
 use Rattle.ics_rule.proofs.CursorLemmas.{not_wanted}
@@ -28,8 +27,7 @@ returns-then-stop-self-clause-none c =
 pub returns-then-is_counted_out-clause-none : goal.returns-then-is_counted_out-clause-none
 returns-then-is_counted_out-clause-none c =
     let at = (goal.at.returns-then-is_counted_out-clause-none c).After-min-stop in
-    let counted : CountedBy c.rule.inside.whole c.args.start c.rule.inside.given.count c.args.self.now = (let own = c.requires.own.counted in grind arith) in
-    let none = c.is_counted_out.ensures.out c.if-is_counted_out.true c.args.start counted in
+    let none = c.is_counted_out.ensures.out c.if-is_counted_out.true in
     none_kept c.args.rule.now c.args.self.now.place rules_end c.until_end.result (after at) (omega arith) (ends at)
     (λ n l u. let is = none n l in grind arith)
 
@@ -38,7 +36,7 @@ returns-then-chooses_none-clause-none c =
     let r = c.args.rule.now in
     let at = (goal.at.returns-then-chooses_none-clause-none c).After-min-stop in
     none_kept r c.args.self.now.place rules_end c.until_end.result (after at) (omega arith) (ends at)
-    (λ n l u. let is = c.chooses_none.ensures c.if-chooses_none.true c.args.start n (omega (arith, u)) in
+    (λ n l u. let is = c.chooses_none.ensures c.if-chooses_none.true c.of-search.result.start n (omega (arith, u)) in
     not_wanted (effective r) (number r.start) r.parts.count n (grind arith))
 
 pub returns-clause-none : goal.returns-clause-none

@@ -30,7 +30,7 @@ first c = let held = rw c.look_at.ensures.1.0 at c.in-Some-held.is in grind arit
 pub returns-in_default-clause-turned : goal.returns-in_default-clause-turned
 returns-in_default-clause-turned c = λ yes.
     let turn = rw (c.in_default.is, c.in-Some-count.is) at c.requires.turn.passed in
-    let some = rw c.in-Some-count.is at c.requires.count in
+    let some = c.args.search.now.some _ c.in-Some-count.is in
     let own = rw (first (goal.at.returns-in_default-clause-turned c).In-Some-held) at c.look_at.ensures.1 in
     rw (c.in-Some-count.is, own.0)
     (turned_first c.args.self.now some turn c.requires.step own.1 (ap (λ x. c.in-Some-count.count - 1 + x) c.taken_before-through.ensures.value))
@@ -42,7 +42,7 @@ returns-in_default-count-2-clause-looks c =
     c.look_at-in_default-count-2.ensures.1.1.1
 
 -- the period held is left for a later one
-left : (c : After-taken_before) {k : ℕ} → c.args.count ≡ Some k → IsLeft c.args.search.now.parts.now c.args.search.now.start k c.args.number
+left : (c : After-taken_before) {k : ℕ} → c.args.search.now.count ≡ Some k → IsLeft c.args.search.now.parts.now c.args.search.now.start k c.args.number
     c.taken_before.result c.args.self.now.counted c.args.self.now.limit c.in-Some.period
 left c e =
     let held = rw c.in-Some.is at c.requires.turn.held in

@@ -20,14 +20,14 @@ pub returns-then-not-turn_to-clause-next : goal.returns-then-not-turn_to-clause-
 returns-then-not-turn_to-clause-next c = let out = c.turn_to.ensures.out c.if-not-turn_to.true in walk_out c.loop-number.invariant out.none
 
 -- the period turned to is the one with the number
-own : (c : In-Some) → IsTurned c.args.search.now.parts.now c.args.search.now.start c.args.count c.loop-number.number
+own : (c : In-Some) → IsTurned c.args.search.now.parts.now c.args.search.now.start c.args.search.now.count c.loop-number.number
     c.turn_to.new.self c.in-Some.period
 own c = held_is _ c.in-Some.is (c.turn_to.ensures.turned c.if-not-turn_to.false)
 
 top : (c : In-Some) → c.loop-number.number ≤ period_in c.args.search.now.parts.now (c.args.stop - 1)
 top c = omega (arith, c.loop-number-test.true, c.last_to_look_at-end.ensures.high, c.period_of-last.ensures.value)
 
-found : (c : In-Some-next_taken) → IsWalked c.args.search.now.parts.now c.args.search.now.start c.args.count c.args.stop
+found : (c : In-Some-next_taken) → IsWalked c.args.search.now.parts.now c.args.search.now.start c.args.search.now.count c.args.stop
     (Some c.in-Some-next_taken.n) c.args.self.now c.turn_to.new.self
 found c = walk_found c.loop-number.invariant (held_is _ c.in-Some.is (c.turn_to.ensures.turned c.if-not-turn_to.false)) c.turn_to.ensures.looks
     (omega (arith, c.loop-number-test.true, c.last_to_look_at-end.ensures.high, c.period_of-last.ensures.value)) c.in-Some-next_taken.ensures.next
@@ -38,11 +38,14 @@ next_taken-requires-clause-own c = let at = goal.at.next_taken-requires-clause-o
 pub is_counted_out-out-requires-clause-held : goal.is_counted_out-out-requires-clause-held
 is_counted_out-out-requires-clause-held c = (found (goal.at.is_counted_out-out-requires-clause-held c).In-Some-next_taken).found.0
 
+pub is_counted_out-out-requires-clause-counted : goal.is_counted_out-out-requires-clause-counted
+is_counted_out-out-requires-clause-counted c = (found (goal.at.is_counted_out-out-requires-clause-counted c).In-Some-next_taken).counted
+
 pub returns-then-out-clause-next : goal.returns-then-out-clause-next
 returns-then-out-clause-next c =
     let at = goal.at.returns-then-out-clause-next c in
     walk_stops c.loop-number.invariant (own at.In-Some) c.turn_to.ensures.looks (top at.In-Some) c.in-Some-next_taken.ensures.next
-    (c.is_counted_out-out.ensures.out c.if-out.true c.args.search.now.start (found at.In-Some-next_taken).counted)
+    (c.is_counted_out-out.ensures.out c.if-out.true)
 
 pub returns-then-out-clause-walked : goal.returns-then-out-clause-walked
 returns-then-out-clause-walked c = let at = goal.at.returns-then-out-clause-walked c in
@@ -51,9 +54,8 @@ returns-then-out-clause-walked c = let at = goal.at.returns-then-out-clause-walk
 pub returns-else-out-clause-next : goal.returns-else-out-clause-next
 returns-else-out-clause-next c =
     let at = goal.at.returns-else-out-clause-next c in
-    let walked = found at.In-Some-next_taken in
     walk_finds c.loop-number.invariant (own at.In-Some) c.turn_to.ensures.looks (top at.In-Some) c.in-Some-next_taken.ensures.next
-    (c.is_counted_out-out.ensures.kept c.if-out.false c.args.search.now.start walked.counted walked.found.1.1)
+    (c.is_counted_out-out.ensures.kept c.if-out.false (found at.In-Some-next_taken).found.1.1)
 
 pub returns-else-out-clause-walked : goal.returns-else-out-clause-walked
 returns-else-out-clause-walked c = found (goal.at.returns-else-out-clause-walked c).In-Some-next_taken
