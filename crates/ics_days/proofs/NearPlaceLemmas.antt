@@ -1,5 +1,5 @@
 -- The places near a day, and those that wait.
-use Rattle.std.proofs.Common.{◌≡◌, ℕ, zero, suc, ◌+◌, ◌<◌, ◌≤◌, ℤ, ◌≤ℤ◌, ◌<ℤ◌, List, [], ◌∷◌, ◌++◌, map, length, drop, take, filter, fold, inl, inr, ⊎_elim}
+use Rattle.std.proofs.Common.{◌≡◌, ℕ, zero, suc, ◌+◌, ◌<◌, ℤ, ◌≤ℤ◌, ◌<ℤ◌, List, [], ◌∷◌, ◌++◌, map, length, drop, take, filter, fold, inl, inr, ⊎_elim}
 use Rattle.std.proofs.Common.{Option, Some, None, Bool, ◌||◌, true, false, not, refl, sym, ◌∙◌, ap, subst, arith, int_le, int_lt, slice_get, is_gt, ◌⊎◌}
 use Rattle.std.proofs.Common.{if◌then◌else◌, OnOk, Ok, Err, Result, IfSome, IsSome, Ordering, Less, Equal, Greater}
 use Rattle.std.specs.BTreeSet.{insert_key}

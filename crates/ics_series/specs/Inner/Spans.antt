@@ -1,5 +1,5 @@
 -- From when to when the events of a folder are, so that they need not be read for a window that they cannot meet.
-use Rattle.std.specs.Prelude.{◌≡◌, ◌⊎◌, ◌<ℤ◌, ◌≤ℤ◌, ◌-ℤ◌, ℕ, ℤ, pos, negsuc, Bool, true, false, ◌&&◌, not, int_le, int_lt, if◌then◌else◌, List, [], length}
+use Rattle.std.specs.Prelude.{◌≡◌, ◌⊎◌, ◌<ℤ◌, ◌≤ℤ◌, ◌-ℤ◌, ℕ, ℤ, pos, true, false, int_lt, if◌then◌else◌, List, [], length}
 use Rattle.std.specs.Prelude.{slice_get}
 use Rattle.std.specs.Prelude.{Option, Some, None}
 use Rattle.std.specs.Int.{int_max}
