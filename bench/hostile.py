@@ -159,6 +159,11 @@ def turning(first, second, *rules):
             for before, after, rule in zip((first, second), (second, first), rules)]
 
 
+def listed(numbers):
+    """The numbers as a part lists them."""
+    return ','.join(map(str, numbers))
+
+
 def by(hours, minutes, *seconds):
     """The parts of a rule for these hours, minutes and, if they are said, seconds."""
     return 'BYHOUR=%s;BYMINUTE=%s' % (hours, minutes) + ''.join(';BYSECOND=' + each for each in seconds)
@@ -233,6 +238,9 @@ EACH_OTHER_MINUTE = [part('STANDARD', '00010101T000000', '+0000', after, 'RRULE:
                      for after, minutes in (('+2359', EACH), ('-2359', EVEN))]
 HOURS_OF_MONDAY = [part('STANDARD', '00010101T000000', '-2359', '+2359', 'RRULE:FREQ=YEARLY;BYDAY=MO;BYHOUR=0,1,2;BYSECOND=' + EACH)]
 SELDOM = 'FREQ=DAILY;COUNT=4294967295;INTERVAL=1009;BYWEEKNO=1'
+# Times of a day of which few steps of a multiple of seven seconds have one.
+SEVENTHS = 'BYHOUR=%s;BYMINUTE=5,%s;BYSECOND=%s' % tuple(
+    listed(n for n in range(size) if n % 7 in rests and n != 5) for size, rests in ((24, (0, 3)), (60, (0, 2)), (60, (1, 2))))
 AGES = ['0001-01-05', '3570000d', '--every-day', '--limit', '1']
 QUARTER = ['2024-07-01', '92d', '--limit', '1']
 EXCLUDED = 'EXDATE;VALUE=DATE:' + ','.join('2024%02d%02d' % (month, day) for month in (7, 8, 9) for day in range(1, 32 - month // 9))
@@ -419,6 +427,22 @@ ROWS = [
                       + ','.join(str(minute) for minute in range(30)))], LONG, 'RRULE:FREQ=DAILY'), DAY, 2, 32),
     ('8 events a hundred years apart in each of 9 time zones of hourly observances, a window of ages, limit 1', lambda: far_apart(9, 8),
      AGES[:2] + AGES[3:], 24, 32),
+    ('seconds by sevens that seldom match on three weekdays, a window of ages',
+     lambda: rules(1, 'FREQ=SECONDLY;INTERVAL=7063;BYDAY=FR,SA,SU;' + SEVENTHS), AGES[:2], 4, 32),
+    ('3 such rules, each day of a hundred years', lambda: rules(3, 'FREQ=SECONDLY;INTERVAL=707;BYDAY=FR,SA,SU;' + SEVENTHS),
+     ['2024-07-01', '36525d', '--every-day'], 2, 32),
+    ('7 rules of seconds that seldom are at the beginning of a minute of five hours, a window of ages',
+     lambda: rules(7, 'FREQ=SECONDLY;INTERVAL=28001;BYHOUR=1,6,11,16,21;BYSECOND=0'), AGES[:2], 4, 32),
+    ('7 rules of minutes that seldom are at a full hour, a window of ages', lambda: rules(7, 'FREQ=MINUTELY;INTERVAL=719;BYHOUR=3,15;BYMINUTE=0'),
+     AGES[:2], 1, 32),
+    ('6 rules of seconds that seldom match in a month, under COUNT, each day of a thousand years',
+     lambda: rules(6, 'FREQ=SECONDLY;INTERVAL=773;BYMONTH=11;BYMINUTE=2;BYSECOND=27;COUNT=1000'), ['0001-01-05', '366000d', '--every-day'], 1, 32),
+    ('7 rules of seconds that seldom match on the first day of a year, under COUNT, each day of a thousand years',
+     lambda: rules(7, 'FREQ=SECONDLY;INTERVAL=343;BYYEARDAY=1;BYSECOND=58;COUNT=4294967295'), ['0001-01-05', '366000d', '--every-day'], 2, 32),
+    ('6 rules of seconds that seldom are in a minute of an hour on the first day of a month, a window of ages',
+     lambda: rules(6, 'FREQ=SECONDLY;INTERVAL=8401;BYDAY=MO,TU,WE,TH,FR,SA;BYMINUTE=8;BYMONTHDAY=1'), AGES[:2], 8, 32),
+    ('seconds of twenty minutes of three hours on a Monday, a window of ages',
+     lambda: rules(1, 'FREQ=SECONDLY;INTERVAL=3607;BYDAY=MO;BYHOUR=0,1,2;BYMINUTE=' + listed(range(0, 60, 3))), AGES[:2], 4, 32),
     ('400,000 faulty events, --keep-going', lambda: faulty(400_000), [*DAY, '--keep-going'], 12, 256),
 ]
 
