@@ -215,7 +215,7 @@ fn common_divisor(a: u64, b: u64) -> u64 {
 /// A look at a period costs about as much as so many at single steps.
 const LOOK: u64 = 16;
 
-/// Whether it is time to go round a cycle: the looks since the last time have cost as much. They are asked of after each four.
+/// Whether it is time to go round a cycle: the looks since the last time have cost as much. It is asked after each four looks.
 fn is_time(clock: &StepClock, interval: u32, looks: u64) -> bool
     requires { 1 ≤ interval }
 {

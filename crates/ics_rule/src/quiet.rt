@@ -20,7 +20,7 @@ const MANY_STEPS: u32 = 64;
 /// After each so many steps that allow nothing, one is found by the times of a day and the weekdays.
 const SOME_STEPS: u32 = 4;
 
-/// The first step from a period's number on. With `by_times`, the first whose time and weekday are allowed, as far as that is known.
+/// The first step from a period's number on. After each so many looks, the first whose time and weekday are allowed, as far as that is known.
 #[inline]
 fn step_from(search: &Search<'_>, own: u64, looks: u32) -> u64
     requires { own < 2 ^ 40 }
@@ -34,8 +34,8 @@ fn step_from(search: &Search<'_>, own: u64, looks: u32) -> u64
     }
 }
 
-/// The first local of the first step, from the period of a local on. With `by_times`, that of the first whose time and weekday are allowed, as far
-/// as that is known. The end of the rules if that is later.
+/// The first local of the first step, from the period of a local on. After each so many looks, that of the first whose time and weekday are allowed,
+/// as far as that is known. The end of the rules if that is later.
 fn begin_of_step(search: &Search<'_>, n: u64, looks: u32) -> u64
     requires { n < calendar_end }
     ensures none { NoneChosen search.now.parts.now search.now.start n result }
