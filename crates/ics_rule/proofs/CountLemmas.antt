@@ -65,9 +65,10 @@ last_local = 315_569_519_999
 
 -- The period held is o, and before the next to be looked at nothing more is chosen: `before` locals of o are taken.
 pub record IsLeft (q : EffectiveRule) (start c number before total limit : ℕ) (o : RecurrencePeriod) : Type 0 where
+  pub quiet_to : ℕ
   pub some : 1 ≤ q.interval
   pub own : IsPeriodOf q o
-  pub counted : IsCounted q start c total limit o
+  pub counted : IsCounted q start c total limit quiet_to o
   pub passed : IsPassed q start (o.number + q.interval) number
   pub reach : first_local q.frequency (monday_zero q.week_start) number ≤ last_local
   pub taken : before ≡ count last_local (is_taken q.positions (lists_none_wide q.positions) o)
@@ -110,7 +111,7 @@ turned_first {q = q} {start = start} was {p = p} positive e step (own, same) lim
       held = refl;
       product = own;
       number = same;
-      counted = record { step = here; total = sym back; most = omega (arith, chosen, back, one, limit, positive) };
+      counted = record { step = here; total = sym back; most = omega (arith, chosen, back, one, limit, positive); quiet = λ n l u. absurd (omega (arith, u)) };
     }
 
 -- each further look
@@ -125,6 +126,7 @@ turned_on {q = q} {start = start} was left step product same = record {
     step = ap (is_stepped (period_in q start) q.interval) same ∙ step;
     total = rw same (sym (chosen_passed left));
     most = left.counted.most;
+    quiet = λ n l u. absurd (omega (arith, u));
   };
 }
 
@@ -143,7 +145,13 @@ pub record IsCountedStep (q : EffectiveRule) (start number target place chosen :
   pub total : chosen ≡ count (first_local q.frequency (monday_zero q.week_start) target) (is_chosen q start)
 
 -- counts stay small
-pub counted_small : {q : EffectiveRule} {start c counted limit : ℕ} {o : RecurrencePeriod} (number : ℕ) → IsCounted q start c counted limit o →
-    o.number ≤ number → is_stepped (period_in q start) q.interval number ≡ true
+small_total : (q : EffectiveRule) (start : ℕ) {counted first number : ℕ}
+    → counted ≡ count (first_local q.frequency (monday_zero q.week_start) first) (is_chosen q start) → first ≤ number
+    → is_stepped (period_in q start) q.interval number ≡ true → first_local q.frequency (monday_zero q.week_start) number ≤ rules_end
+    → counted ≤ rules_end
+small_total q start total l step h = grind (arith, count_most, first_mono, step_low)
+
+pub counted_small : {q : EffectiveRule} {start c counted limit quiet_to : ℕ} {o : RecurrencePeriod} (number : ℕ)
+    → IsCounted q start c counted limit quiet_to o → o.number ≤ number → is_stepped (period_in q start) q.interval number ≡ true
     → first_local q.frequency (monday_zero q.week_start) number ≤ rules_end → counted ≤ rules_end
-counted_small number known l step h = let total = known.total in grind (arith, count_most, first_mono, step_low)
+counted_small {q = q} {start = start} number known l step h = small_total q start known.total l step h

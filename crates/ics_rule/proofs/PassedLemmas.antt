@@ -73,6 +73,7 @@ passed_on {q = q} {start = start} {target = target} {total = total} {before = be
         step = ap (is_stepped (period_in q start) q.interval) same ∙ is.step;
         total = is.total ∙ ap (λ x. count (first_local q.frequency (monday_zero q.week_start) x) (is_chosen q start)) (sym same);
         most = to.turned.counted.most;
+        quiet = λ n l u. absurd (omega (arith, u));
       }) (omega (arith, moved.place, under.own.inside));
       moved = moved;
     })

@@ -1,5 +1,6 @@
 -- Where a rule chooses nothing, as far as the parts of the date tell and the period that is held.
-use Rattle.std.proofs.Common.{◌≡◌, ℕ, zero, suc, ◌+◌, ◌-◌, ◌<◌, ◌≤◌, inl, inr, Bool, true, false, ◌&&◌, Some, refl, sym, ap, ◌∙◌, arith}
+use Rattle.std.proofs.Common.{◌≡◌, ℕ, zero, suc, ◌+◌, ◌-◌, ◌<◌, ◌≤◌, inl, inr, Bool, true, false, ◌&&◌, Option, Some, None}
+use Rattle.std.proofs.Common.{MatchOption, refl, sym, ap, ◌∙◌, arith}
 use Rattle.std.proofs.lemmas.Bool.{and_parts, and_right, cases_lt, eqb-true}
 use Rattle.jiff_core.specs.Weekday.{monday_zero}
 use Rattle.ics_fields.specs.Ordinals.{lists_none_wide}
@@ -9,7 +10,8 @@ use Rattle.ics_period.specs.declared.recurrence_period.RecurrencePeriod.{Recurre
 use Rattle.ics_period.specs.Candidates.{is_stepped, period_in}
 use Rattle.ics_period.specs.Ranks.{count, is_chosen}
 use Rattle.ics_period.specs.RecurrencePeriods.{first_local, holds, is_taken, IsPeriodOf}
-use Rattle.ics_rule.specs.Cursors.{IsCounted}
+use Rattle.ics_rule.specs.declared.cursor.Cursor.{Cursor}
+use Rattle.ics_rule.specs.Cursors.{CountedBy, IsCounted, NoneChosenAfter}
 use Rattle.ics_rule.specs.Inner.Quiet.{NoneChosen}
 use Rattle.ics_rule.specs.Inner.Searches.{is_few, is_wanted, IsNextOpen, NoneLetIn}
 use Rattle.ics_rule.proofs.ChosenLemmas.{no_step, not_let_in, taken_out, taken_within}
@@ -86,8 +88,8 @@ module _ (f g : ℕ → Bool) (a : ℕ) (is : (m : ℕ) → g m ≡ true → (a 
       rw same (grind (arith, count-suc (a + k) f, count-suc (a + k) g))
 
 -- Under COUNT: all that is kept is earlier than the place.
-pub counted_past : {q : EffectiveRule} {start c counted limit : ℕ} {p : RecurrencePeriod} (place : ℕ) → IsPeriodOf q p
-    → IsCounted q start c counted limit p → p.number ≤ period_in q place
+pub counted_past : {q : EffectiveRule} {start c counted limit quiet_to : ℕ} {p : RecurrencePeriod} (place : ℕ) → IsPeriodOf q p
+    → IsCounted q start c counted limit quiet_to p → p.number ≤ period_in q place
     → limit ≤ counted + count place (is_taken q.positions (lists_none_wide q.positions) p) → (n : ℕ) → place ≤ n → is_wanted q start (Some c) n ≡ false
 counted_past {q = q} {start = start} {c = c} {counted = counted} {limit = limit} {p = p} place own is late out n l =
     let first = first_local q.frequency (monday_zero q.week_start) p.number in
@@ -104,11 +106,29 @@ counted_past {q = q} {start = start} {c = c} {counted = counted} {limit = limit}
         (begun q.frequency (monday_zero q.week_start) p.number m (omega (arith, at.0)), at.1)
 
 -- and within the period held, a local is kept that has fewer chosen before it than the limit
-pub counted_here : {q : EffectiveRule} {start c counted limit : ℕ} {p : RecurrencePeriod} (n : ℕ) → IsPeriodOf q p → IsCounted q start c counted limit p
-    → p.number ≡ period_in q n → counted + count n (is_taken q.positions (lists_none_wide q.positions) p) < limit
+pub counted_here : {q : EffectiveRule} {start c counted limit quiet_to : ℕ} {p : RecurrencePeriod} (n : ℕ) → IsPeriodOf q p
+    → IsCounted q start c counted limit quiet_to p → p.number ≡ period_in q n → counted + count n (is_taken q.positions (lists_none_wide q.positions) p) < limit
     → is_wanted q start (Some c) n ≡ is_chosen q start n
 counted_here {q = q} {start = start} {c = c} {limit = limit} {p = p} n own is here less =
     let low = begun q.frequency (monday_zero q.week_start) p.number n (omega (arith, here)) in
     let all = chosen_before q start p own is.step n low (λ m u later. absurd (
     let up = period_mono q.frequency (monday_zero q.week_start) m n (omega (arith, u)) in omega (arith, up, later, here))) in
     ap (λ b. is_chosen q start n && b) (are_few q start c limit is.most n (omega (arith, all, less, is.total))) ∙ keep_true (is_chosen q start n)
+
+-- a cursor keeps that nothing is chosen after the period held and before one local, and from there on before another
+pub kept_quiet : (q : EffectiveRule) (start : ℕ) {from to : ℕ} (o : Option ℕ) (cursor : Cursor) → CountedBy q start o cursor
+    → MatchOption cursor.held (Unit {0}) (λ p. NoneChosenAfter q start p.number from) → NoneChosen q start from to
+    → CountedBy q start o (record cursor { quiet_to = to })
+kept_quiet q start None cursor is none rest = tt
+kept_quiet q start {from = from} {to = to} (Some k) cursor is none rest = by cursor.held is none
+  where
+    by : (held : Option RecurrencePeriod) → MatchOption held (Unit {0}) (IsCounted q start k cursor.counted cursor.limit cursor.quiet_to)
+        → MatchOption held (Unit {0}) (λ p. NoneChosenAfter q start p.number from)
+        → MatchOption held (Unit {0}) (IsCounted q start k cursor.counted cursor.limit to)
+    by None h at = tt
+    by (Some p) h at = record {
+      step = h.step;
+      total = h.total;
+      most = h.most;
+      quiet = λ n l u. elim (cases_lt n from) [ inl less ↦ at n l less | inr more ↦ rest n more u ];
+    }

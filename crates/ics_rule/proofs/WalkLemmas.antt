@@ -1,6 +1,6 @@
 -- How far a walk over the periods has come.
 use Rattle.std.proofs.Common.{◌≡◌, ℕ, ◌+◌, ◌-◌, ◌*◌, ◌%◌, ◌<◌, ◌≤◌, inl, inr, Bool, true, false, Option, Some, None, MatchOption, ◌⊎◌}
-use Rattle.std.proofs.Common.{sym, ap, ◌∙◌, arith}
+use Rattle.std.proofs.Common.{min, sym, ap, ◌∙◌, arith}
 use Rattle.std.proofs.lemmas.Bool.{cases_lt}
 use Rattle.std.proofs.lemmas.Nat.{mod-mul-add}
 use Rattle.jiff_core.specs.Weekday.{monday_zero}
@@ -15,7 +15,7 @@ use Rattle.ics_period.specs.Ranks.{is_chosen}
 use Rattle.ics_period.specs.RecurrencePeriods.{first_local, is_taken}
 use Rattle.ics_rule.specs.Cursors.{HeldBy, CountedBy, IsCounted, IsCursorIn, looks_from}
 use Rattle.ics_rule.specs.Inner.Searches.{is_chosen_within, is_wanted, IsNextOpen, IsNextWanted, NoneWanted, HasMoved, IsWalk, IsWalked, LooksAt}
-use Rattle.ics_rule.specs.Inner.Searches.{IsPassed, IsTurned}
+use Rattle.ics_rule.specs.Inner.Searches.{IsAhead, IsPassed, IsTurned, IsTurnOf, IsUnderCount}
 use Rattle.ics_rule.specs.Inner.Rounds.{HasRound, IsPassedTo}
 use Rattle.ics_period.proofs.PeriodLemmas.{begun, before_next, period_mono}
 use Rattle.ics_rule.proofs.StepLemmas.{none_between, stepped_parts, stepped_shown}
@@ -113,7 +113,7 @@ module _ {q : EffectiveRule} {start : ℕ} {o : Option ℕ} {stop number : ℕ} 
     pub walk_counted : CountedBy q start o after
     walk_counted = by o turned.counted
       where
-        by : (o : Option ℕ) → MatchOption o (Unit {0}) (λ c. IsCounted q start c after.counted after.limit p) → CountedBy q start o after
+        by : (o : Option ℕ) → MatchOption o (Unit {0}) (λ c. IsCounted q start c after.counted after.limit after.quiet_to p) → CountedBy q start o after
         by None h = tt
         by (Some c) h = rw turned.held h
 
@@ -197,3 +197,72 @@ module _ {q : EffectiveRule} {start : ℕ} {o : Option ℕ} {stop number : ℕ} 
 
 pub walk_reach : (q : EffectiveRule) (number stop : ℕ) → number ≤ period_in q (stop - 1) → first_local q.frequency (monday_zero q.week_start) number ≤ stop
 walk_reach q number stop h = let b = begun q.frequency (monday_zero q.week_start) number (stop - 1) h in omega (arith, b)
+
+-- Under COUNT, where a cursor knows that nothing is chosen up to its place, it begins at the first step from where that ends.
+pub walk_ahead : {q : EffectiveRule} {start number stop : ℕ} {o : Option ℕ} {cursor : Cursor} → 1 ≤ q.interval
+    → IsLeastFrom (is_stepped (period_in q start) q.interval) (period_in q (min cursor.quiet_to rules_end)) number
+    → IsAhead q start o (period_in q cursor.place) cursor → IsUnderCount q start o cursor → cursor.place < stop → IsWalk q start o stop number cursor cursor
+walk_ahead {q = q} {start = start} {number = number} {stop = stop} {cursor = cursor} some next ahead under early =
+    let own = under.own in
+    let to = min cursor.quiet_to rules_end in
+    let up = period_mono q.frequency (monday_zero q.week_start) cursor.place to (omega (arith, ahead.place, under.early)) in
+    let low : period_in q cursor.place ≤ number = omega (arith, up, next.low) in
+    let counted = rw (ahead.some, ahead.held) at own.counted in
+    let held = rw ahead.held at own.held in
+    let past : (n : ℕ) → to ≤ n → period_in q n < number → is_chosen q start n ≡ false =
+    λ n l u. no_step q start n (next.least (period_in q n) (period_mono q.frequency (monday_zero q.week_start) to n l) u) in record {
+      some = some;
+      late = rw ahead.some (omega (arith, under.after));
+      early = early;
+      step = next.passes;
+      low = rw ahead.some (stepped_parts (period_in q start) q.interval number next.passes).0;
+      none = λ n l u. elim (cases_lt n to) [
+        | inl less ↦ ahead.none n (let at = period_mono q.frequency (monday_zero q.week_start) cursor.place n l in omega (arith, at, ahead.early))
+            (omega (arith, less))
+        | inr more ↦ past n more u
+      ];
+      held = held_mono q cursor.held cursor.place stop own.held (omega (arith, early));
+      turn = record {
+        held = rw ahead.held (held.0, omega (arith, ahead.early, low));
+        counted = own.counted;
+        passed = rw (ahead.some, ahead.held) (inr (record {
+          up = elim (cases_lt number (ahead.period.number + q.interval)) [
+            | inl less ↦
+                let no = none_between q.interval some (period_in q start) ahead.period.number number counted.step (omega (arith, ahead.early, low)) less in
+                let never = sym next.passes ∙ no in absurd cc
+            | inr more ↦ more
+          ];
+          none = λ n l u. elim (cases_lt n to) [
+            | inl less ↦ ahead.none n (omega (arith, l, some)) (omega (arith, less))
+            | inr more ↦ past n more u
+          ];
+        }));
+      };
+      moved = moved_none stop own;
+    }
+
+-- a cursor keeps what is known of the periods before one that it may turn to
+pub kept_turn : {q : EffectiveRule} {start number to : ℕ} {o : Option ℕ} (cursor : Cursor) → 1 ≤ q.interval → IsTurnOf q start o number cursor
+    → ((n : ℕ) → n < to → (n < cursor.quiet_to) ⊎ (period_in q n < number)) → CountedBy q start o (record cursor { quiet_to = to })
+kept_turn {o = None} cursor some turn is = tt
+kept_turn {q = q} {start = start} {number = number} {to = to} {o = Some k} cursor some turn is = by cursor.held turn.counted turn.passed
+  where
+    by : (held : Option RecurrencePeriod) → MatchOption held (Unit {0}) (IsCounted q start k cursor.counted cursor.limit cursor.quiet_to)
+        → MatchOption held (number ≡ period_in q start) (λ p. (p.number ≡ number) ⊎ IsPassed q start (p.number + q.interval) number)
+        → MatchOption held (Unit {0}) (IsCounted q start k cursor.counted cursor.limit to)
+    by None h passed = tt
+    by (Some p) h passed = record {
+      step = h.step;
+      total = h.total;
+      most = h.most;
+      quiet = λ n l u. elim (is n u) [
+        | inl known ↦ h.quiet n l known
+        | inr early ↦ elim passed [
+          | inl same ↦ absurd (omega (arith, l, early, same))
+          | inr on ↦ elim (cases_lt (period_in q n) (p.number + q.interval)) [
+            | inl between ↦ no_step q start n (none_between q.interval some (period_in q start) p.number (period_in q n) h.step l between)
+            | inr past ↦ on.none n past early
+          ]
+        ]
+      ];
+    }

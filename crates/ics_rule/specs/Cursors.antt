@@ -1,5 +1,5 @@
 -- The place of a cursor, and how many periods it looks at.
-use Rattle.std.specs.Prelude.{◌≡◌, ℕ, suc, ◌+◌, ◌<◌, ◌≤◌, Bool, ◌&&◌, ◌==◌, nat_le, nat_lt, Option, Some, None, MatchOption, true}
+use Rattle.std.specs.Prelude.{◌≡◌, ℕ, suc, ◌+◌, ◌<◌, ◌≤◌, Bool, ◌&&◌, ◌==◌, nat_le, nat_lt, Option, Some, None, MatchOption, true, false}
 use Rattle.jiff_core.specs.Weekday.{monday_zero}
 use Rattle.ics_fields.specs.declared.local.Local.{Local}
 use Rattle.ics_period.specs.declared.effective_rule.EffectiveRule.{EffectiveRule}
@@ -43,17 +43,22 @@ fresh (Some p) = suc p.number
 abbrev pub HeldBy : EffectiveRule → Option RecurrencePeriod → ℕ → Type 0
 HeldBy q held n = MatchOption held (Unit {0}) (λ p. IsPeriodOf q p × (p.number ≤ period_in q n))
 
--- under COUNT c: the period held is the start's or a later one, the candidates before it that BYSETPOS allows are counted, and a kept local
--- has fewer than limit of them before it
-pub record IsCounted (q : EffectiveRule) (start c counted limit : ℕ) (p : RecurrencePeriod) : Type 0 where
+-- nothing is chosen in the periods after the one with a number, before a local
+abbrev pub NoneChosenAfter : EffectiveRule → ℕ → ℕ → ℕ → Type 0
+NoneChosenAfter q start number to = (n : ℕ) → number < period_in q n → n < to → is_chosen q start n ≡ false
+
+-- under COUNT c: the period held is the start's or a later one, the candidates before it that BYSETPOS allows are counted, a kept local
+-- has fewer than limit of them before it, and none is chosen after that period and before quiet_to
+pub record IsCounted (q : EffectiveRule) (start c counted limit quiet_to : ℕ) (p : RecurrencePeriod) : Type 0 where
   pub step : is_stepped (period_in q start) q.interval p.number ≡ true
   pub total : counted ≡ count (first_local q.frequency (monday_zero q.week_start) p.number) (is_chosen q start)
   pub most : limit + 1 ≡ c + count (suc start) (is_chosen q start)
+  pub quiet : NoneChosenAfter q start p.number quiet_to
 
 -- what a cursor has counted
 abbrev pub CountedBy : EffectiveRule → ℕ → Option ℕ → Cursor → Type 0
 CountedBy q start None cursor = Unit {0}
-CountedBy q start (Some c) cursor = MatchOption cursor.held (Unit {0}) (IsCounted q start c cursor.counted cursor.limit)
+CountedBy q start (Some c) cursor = MatchOption cursor.held (Unit {0}) (IsCounted q start c cursor.counted cursor.limit cursor.quiet_to)
 
 -- a cursor of a effective rule with this COUNT, at its place
 pub record IsCursorIn (q : EffectiveRule) (start : ℕ) (o : Option ℕ) (c : Cursor) : Type 0 where

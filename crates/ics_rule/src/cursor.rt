@@ -53,6 +53,8 @@ pub struct Cursor {
     pub(crate) counted: u64,
     /// Under COUNT, a kept local has fewer than this many of them before it.
     pub(crate) limit: u64,
+    /// Under COUNT, nothing before this local is chosen in a period after the one held.
+    pub(crate) quiet_to: u64,
 }
 
 impl Cursor {
@@ -65,7 +67,7 @@ impl Cursor {
     ghost use Rattle.ics_rule.specs.Calls.{IsAnswer, LooksUpTo};
     ghost use Rattle.ics_rule.specs.Cursors.{known_to, period_count, place_of, steps_of, looks_from, IsCursorOf, HasCounted, HasLooked, IsCursorIn};
     ghost use Rattle.ics_rule.specs.Cursors.{HasLookedIn};
-    ghost use Rattle.ics_rule.specs.Inner.Searches.{IsNextWanted, IsWalked};
+    ghost use Rattle.ics_rule.specs.Inner.Searches.{IsNextWanted, IsSameButQuiet, IsWalked};
 
     /// A cursor at a local of the years 0000 to 9999, whether or not the rule keeps it. It has looked at no period.
     pub fn at(_rule: &Rule, from: Local) -> Cursor
@@ -81,6 +83,7 @@ impl Cursor {
             held: None,
             counted: 0,
             limit: 0,
+            quiet_to: 0,
         }
     }
 
@@ -168,22 +171,28 @@ impl Cursor {
     }
 
     /// A local before which the rule keeps none from the place on, as far as the parts of the rule tell and the period that was looked at last.
-    /// No period is looked at.
-    pub fn quiet(&self, rule: &Rule) -> Local
-        requires own { IsCursorOf rule.now self.now }
-        ensures none { NoneKept rule.now (place_of self.now) (number result) }
+    /// No period is looked at. The cursor keeps what it learns, so that the next search under COUNT begins there.
+    pub fn quiet(&mut self, rule: &Rule) -> Local
+        requires own { IsCursorOf rule.now self.old }
+        ensures none { NoneKept rule.now (place_of self.old) (number result) }
         ensures day { IsDayNumber result.day }
+        ensures place { place_of self.new ≡ place_of self.old }
+        ensures steps { steps_of self.new ≡ steps_of self.old }
+        ensures own { IsCursorOf rule.now self.new }
+        ensures looked { (a b : ℕ) → HasLooked rule.now self.old a b → HasLooked rule.now self.new a b }
     {
         Local::numbered(self.quiet_number(rule, rule.start.number()))
     }
 
     /// The number of that local.
-    fn quiet_number(&self, rule: &Rule, start: u64) -> u64
+    fn quiet_number(&mut self, rule: &Rule, start: u64) -> u64
         requires start { start ≡ number rule.now.start }
         requires inside { start < calendar_end }
-        requires own { IsCursorIn (effective rule.now) start rule.now.parts.count self.now }
-        ensures none { NoneKept rule.now self.now.place result }
+        requires own { IsCursorIn (effective rule.now) start rule.now.parts.count self.old }
+        ensures none { NoneKept rule.now self.old.place result }
         ensures inside { result < calendar_end }
+        ensures kept { IsSameButQuiet self.old self.new }
+        ensures own { IsCursorIn (effective rule.now) start rule.now.parts.count self.new }
     {
         if self.place <= start {
             return start;

@@ -22,5 +22,6 @@ impl Cursor {
         self.held = Some(RecurrencePeriod::new(parts, number));
         self.steps += 1;
         self.counted = counted;
+        self.quiet_to = 0;
     }
 }

@@ -1,9 +1,9 @@
 //! How far a rule is known to keep nothing, without a look at another period.
-ghost use Rattle.std.specs.Prelude.{◌<◌, ◌≤◌, ◌^◌};
+ghost use Rattle.std.specs.Prelude.{◌<◌, ◌≤◌, ◌^◌, MatchOption};
 ghost use Rattle.ics_fields.specs.Locals.{calendar_end};
-ghost use Rattle.ics_rule.specs.Cursors.{HeldBy};
+ghost use Rattle.ics_rule.specs.Cursors.{CountedBy, HeldBy, NoneChosenAfter};
 ghost use Rattle.ics_rule.specs.Inner.Quiet.{NoneChosen};
-ghost use Rattle.ics_rule.specs.Inner.Searches.{IsNextOpen};
+ghost use Rattle.ics_rule.specs.Inner.Searches.{IsNextOpen, IsSameButQuiet};
 ghost use Rattle.ics_period.specs.PeriodNumbers.{rules_end};
 
 use crate::cursor::{Cursor, RULES_END};
@@ -94,13 +94,34 @@ fn next_by_parts(search: &Search<'_>, from: u64) -> u64
 }
 
 impl Cursor {
+    /// A local before which none is chosen from another on, by the parts of the date alone. Up to that other one nothing is chosen after the period
+    /// held, and so the cursor keeps what is found.
+    fn quiet_from(&mut self, search: &Search<'_>, from: u64) -> u64
+        requires counted { CountedBy search.now.parts.now search.now.start search.now.count self.old }
+        requires passed { MatchOption self.old.held (Unit {0}) (λ p. NoneChosenAfter search.now.parts.now search.now.start p.number from) }
+        ensures none { NoneChosen search.now.parts.now search.now.start from result }
+        ensures inside { result < calendar_end }
+        ensures same { IsSameButQuiet self.old self.new }
+        ensures counted { CountedBy search.now.parts.now search.now.start search.now.count self.new }
+    {
+        if from >= RULES_END {
+            return RULES_END;
+        }
+        let to = next_by_parts(search, from);
+        self.quiet_to = to;
+        to
+    }
+
     /// The first of the period of the place that is chosen from there on, if that period is held. Else, or if there is none, a local before
     /// which none is chosen from the place on, by the parts of the date alone.
-    pub(crate) fn next_possible(&self, search: &Search<'_>) -> u64
-        requires place { self.now.place < rules_end }
-        requires held { HeldBy search.now.parts.now self.now.held self.now.place }
-        ensures none { NoneChosen search.now.parts.now search.now.start self.now.place result }
+    pub(crate) fn next_possible(&mut self, search: &Search<'_>) -> u64
+        requires place { self.old.place < rules_end }
+        requires held { HeldBy search.now.parts.now self.old.held self.old.place }
+        requires counted { CountedBy search.now.parts.now search.now.start search.now.count self.old }
+        ensures none { NoneChosen search.now.parts.now search.now.start self.old.place result }
         ensures inside { result < calendar_end }
+        ensures same { IsSameButQuiet self.old self.new }
+        ensures counted { CountedBy search.now.parts.now search.now.start search.now.count self.new }
     {
         let parts = search.parts;
         let own = period_of(parts, self.place);
@@ -110,15 +131,17 @@ impl Cursor {
                     Some(n) => n,
                     None => {
                         let end = first_local(parts.frequency, parts.week_start, own + 1);
-                        if end >= RULES_END {
-                            RULES_END
-                        } else {
-                            next_by_parts(search, end)
-                        }
+                        self.quiet_from(search, end)
                     }
                 }
             }
-            _ => next_by_parts(search, self.place),
+            _ => {
+                if self.is_ahead(search, own) {
+                    self.quiet_from(search, self.quiet_to)
+                } else {
+                    next_by_parts(search, self.place)
+                }
+            }
         }
     }
 }

@@ -4,16 +4,16 @@ ghost use Rattle.jiff_core.specs.Weekday.{monday_zero};
 ghost use Rattle.ics_fields.specs.Sets.{IsLeastFrom};
 ghost use Rattle.ics_period.specs.Candidates.{is_stepped, period_in};
 ghost use Rattle.ics_period.specs.RecurrencePeriods.{first_local};
-ghost use Rattle.ics_rule.specs.Cursors.{IsCursorIn};
-ghost use Rattle.ics_rule.specs.Inner.Searches.{IsNextWanted, IsWalk, IsWalked, LooksAt, IsTurnOf, IsTurned, IsOut};
+ghost use Rattle.ics_rule.specs.Cursors.{CountedBy, IsCursorIn};
+ghost use Rattle.ics_rule.specs.Inner.Searches.{IsAhead, IsNextWanted, IsSameButQuiet, IsWalk, IsWalked, LooksAt, IsTurnOf, IsTurned, IsOut};
 ghost use Rattle.ics_period.specs.PeriodNumbers.{rules_end};
 
-use crate::cursor::Cursor;
+use crate::cursor::{Cursor, RULES_END};
 use crate::never::chooses_none;
 use crate::pass::next_step_after;
 use crate::rounds::last_to_look_at;
 use crate::search::Search;
-use ics_period::period_of;
+use ics_period::{first_local, period_of};
 
 /// 10000-01-01T00:00:00, the end of the calendar.
 const CALENDAR_END: u64 = 315_569_520_000;
@@ -74,8 +74,38 @@ impl Cursor {
         true
     }
 
+    /// Whether under COUNT the period held is earlier than the one with a number, and the cursor knows that nothing is chosen after it up to
+    /// the place.
+    pub(crate) fn is_ahead(&self, search: &Search<'_>, own: u64) -> bool
+        requires { CountedBy search.now.parts.now search.now.start search.now.count self.now }
+        ensures { result ≡ true → IsAhead search.now.parts.now search.now.start search.now.count own self.now }
+    {
+        let Some(_) = search.count else {
+            return false;
+        };
+        let Some(period) = &self.held else {
+            return false;
+        };
+        period.number() < own && self.place <= self.quiet_to
+    }
+
+    /// Keeps that nothing is chosen after the period held and before the one with a number.
+    fn keep_quiet(&mut self, search: &Search<'_>, number: u64)
+        requires turn { IsTurnOf search.now.parts.now search.now.start search.now.count number self.old }
+        requires some { 1 ≤ search.now.parts.now.interval }
+        ensures same { IsSameButQuiet self.old self.new }
+        ensures counted { CountedBy search.now.parts.now search.now.start search.now.count self.new }
+    {
+        let parts = search.parts;
+        if number <= period_of(parts, RULES_END) {
+            let begin = first_local(parts.frequency, parts.week_start, number);
+            self.quiet_to = self.quiet_to.max(begin);
+        }
+    }
+
     /// The period that a walk begins with: the first step from the place on. Under COUNT it is that of the start or the one held, once what is
-    /// chosen before the place is counted by whole rounds or days.
+    /// chosen before the place is counted by whole rounds or days. Where the cursor knows that nothing is chosen up to the place, it is the first
+    /// step from where that ends, and nothing is counted.
     fn first_step(&mut self, search: &Search<'_>, own: u64) -> u64
         requires after { search.now.start < self.old.place }
         requires early { self.old.place < rules_end }
@@ -84,6 +114,10 @@ impl Cursor {
         requires cursor { IsCursorIn search.now.parts.now search.now.start search.now.count self.old }
         ensures { (stop : ℕ) → self.old.place < stop → IsWalk search.now.parts.now search.now.start search.now.count stop result self.old self.new }
     {
+        if self.is_ahead(search, own) {
+            let quiet = period_of(search.parts, self.quiet_to.min(RULES_END));
+            return next_step(search.first, search.parts.interval, quiet);
+        }
         match search.count {
             None => next_step(search.first, search.parts.interval, own),
             Some(_) => {
@@ -126,6 +160,7 @@ impl Cursor {
             looks = looks.saturating_add(1);
             number = next_step_after(search, period, last, stop, looks);
         }
+        self.keep_quiet(search, number);
         None
     }
 }

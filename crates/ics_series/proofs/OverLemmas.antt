@@ -5,6 +5,7 @@ use Rattle.std.specs.List.Sorted.{IsSearchInRange}
 use Rattle.std.proofs.lemmas.Map.Lookups.{exact_unsigned}
 use Rattle.std.specs.Option.{unwrap_or}
 use Rattle.std.specs.List.{AllByRecursion}
+use Rattle.std.proofs.Math.Logic.{∥∥₁_elim}
 use Rattle.std.proofs.lemmas.Int.{int_max_is, ints}
 use Rattle.ics_fields.specs.Locals.{midnight}
 use Rattle.ics_file.specs.File.{FileSaid}
@@ -21,6 +22,9 @@ use Rattle.ics_series.specs.HeldMost.{Master}
 use Rattle.ics_series.specs.Inner.Ended.{end_of, AreMovedOff, HasEnded, HaveEnded, IsMasterAt, IsOver, IsOverPart}
 use Rattle.ics_days.specs.Spans.{always, first_at}
 use Rattle.ics_series.specs.Inner.Spans.{AreSpansAfter, IsKeptFrom, IsPutOff, IsRest, floor_of}
+use Rattle.ics_series.specs.Chosen.{IsMaster}
+use Rattle.ics_series.specs.Inner.Kept.{IsEventOfMaster, IsPartOf}
+use Rattle.ics_series.specs.Inner.Marks.{marks-prop, AreMarks, IsPut, StayMarks}
 use Rattle.ics_series.specs.Meets.{IsListed, IsToCome}
 use Rattle.ics_series.specs.PlacedEvents.{Placed, clocks_at}
 use Rattle.ics_series.specs.Sources.{recurring, IsMasterOf}
@@ -31,8 +35,11 @@ use Rattle.ics_days.specs.declared.span.Span.{Span}
 use Rattle.ics_series.specs.declared.version.Version.{Version}
 use Rattle.ics_starts.specs.Instances.{IsOf}
 use Rattle.ics_starts.specs.MeetsWindow.{Meets}
+use Rattle.ics_starts.specs.RuleMarks.{IsMarkOf}
+use Rattle.ics_starts.specs.declared.mark.Mark.{Mark}
 use Rattle.ics_starts.specs.SingleEvents.{is_single}
 use Rattle.ics_series.proofs.KnownLemmas.{all-last}
+use Rattle.ics_series.proofs.MarkLemmas.{marks-put}
 use Rattle.ics_series.proofs.OccursLemmas.{master-subject}
 use Rattle.ics_series.proofs.SpanLemmas.{from-first, low-start, meets-before, near-later, rest-span}
 use Rattle.ics_series.proofs.VersionLemmas.{in-map, one-chosen, placed-event}
@@ -136,6 +143,43 @@ over-all s day (m ∷ ms) none soon recur are ended = (
 )
 
 -- The span of such a master at its place.
+-- the version at the place of a master is that of the master
+label-at : {files : List FileSaid} {display : Clock} {vs : List Version} → AreChosen files display vs → {by : Placed} → IsMaster files display by
+    → {k : ℕ} {uid : List ℕ} (at : IsMasterAt (map seen vs) k uid) → uid ≡ by.event.uid → at.label ≡ label_of files display by
+label-at {files = files} {display = display} {vs = vs} chosen {by = by} is {k = k} at same =
+    let there = in-map (label_of files display) at.label chosen.chosen (subst (IsIn at.label) chosen.are (get-in at.label (map seen vs) k at.there)) in
+    let counts = (chosen.listing.exact there.0).0 there.1 in
+    let subject : at.label.subject ≡ record { uid = by.event.uid; recurrence = None } =
+    λ i. record { uid = (at.same ∙ same) i; recurrence = at.single i } in
+    there.2 ∙ ap (label_of files display) (one-chosen counts is.chosen
+    (sym (ap (λ (l : Label). l.subject) there.2) ∙ (subject ∙ sym (master-subject files display by is))))
+
+-- marks that stay, and one of a master that is put at its place
+pub stay_none : {vs : List Version} {IsKnown : List FileSaid → Clock → Type 0} (marks : List (Option Mark)) → StayMarks vs IsKnown marks marks
+stay_none marks = record { still = λ files display chosen known are. are }
+
+-- those of the feeds before one, and of that one
+pub stay-more : {vs : List Version} {L : Type 0} (feed : L → Part) (ys : List L) (y : L) {part : Part} {old mid new : List (Option Mark)} → part ≡ feed y
+    → StayMarks vs (λ files display. AllByRecursion (λ l. IsPartOf files display (feed l)) ys) old mid
+    → StayMarks vs (λ files display. IsPartOf files display part) mid new
+    → StayMarks vs (λ files display. AllByRecursion (λ l. IsPartOf files display (feed l)) (ys ++ y ∷ [])) old new
+stay-more feed ys y is a b = record {
+  still = λ files display chosen parts are.
+      let both = all-last ys y (λ l. IsPartOf files display (feed l)) parts in
+      b.still files display chosen (subst (IsPartOf files display) (sym is) both.1) (a.still files display chosen both.0 are);
+}
+
+module _ {files : List FileSaid} {display : Clock} {vs : List Version} (chosen : AreChosen files display vs) {event : Event}
+    (of : IsEventOfMaster files display event) {k : ℕ} (at : IsMasterAt (map seen vs) k event.uid) {mark : Option Mark} (is : IsMarkOf event mark) where
+  pub marks-over : (old new : List (Option Mark)) → IsPut old k mark new → AreMarks files (map seen vs) old → AreMarks files (map seen vs) new
+  marks-over old new put are = ∥∥₁_elim of (marks-prop files (map seen vs) new) (λ h.
+      marks-put files (map seen vs) k mark old new are put (λ label e there stands.
+      let label-is : label ≡ label_of files display h.0 =
+      ap (λ o. unwrap_or o label) (sym there ∙ at.there) ∙ label-at chosen h.1 at (ap (λ (v : Event). v.uid) h.2) in
+      let placed = placed-event files h.0 h.1.chosen.placed in
+      let same : e ≡ h.0.event = ap (λ o. unwrap_or o e) (sym stands ∙ (ap (λ (l : Label). event_at files l.spot) label-is ∙ placed)) in
+      subst (λ x. IsMarkOf x mark) (h.2 ∙ sym same) is))
+
 module _ (s : Scope) (day : ℤ) (vs : List Version) (chosen : AreChosen s.files s.display vs) {m : Recurring} (over : IsOver s day m) {k : ℕ}
     (at : IsMasterAt (map seen vs) k m.event.uid) where
   abbrev by : Placed
@@ -143,14 +187,7 @@ module _ (s : Scope) (day : ℤ) (vs : List Version) (chosen : AreChosen s.files
 
   -- the version there is that of the master
   own-label : at.label ≡ label_of s.files s.display by
-  own-label =
-      let there = in-map (label_of s.files s.display) at.label chosen.chosen (subst (IsIn at.label) chosen.are (get-in at.label (map seen vs) k at.there)) in
-      let counts = (chosen.listing.exact there.0).0 there.1 in
-      let event = ap (λ (x : Master). x.event) over.searched.searched.same in
-      let subject : at.label.subject ≡ record { uid = by.event.uid; recurrence = None } =
-      λ i. record { uid = (at.same ∙ ap (λ (e : Event). e.uid) event) i; recurrence = at.single i } in
-      there.2 ∙ ap (label_of s.files s.display) (one-chosen counts over.searched.is.chosen
-      (sym (ap (λ (l : Label). l.subject) there.2) ∙ (subject ∙ sym (master-subject s.files s.display by over.searched.is))))
+  own-label = label-at chosen over.searched.is at (ap (λ (x : Master). x.event.uid) over.searched.searched.same)
 
   module _ (x : ℤ) (n : Window) (later : day <ℤ x) (near : IsNearDay s.display s.window s.bounds x n) where
     -- none that meets a window near a later day begins before the end of the day's own

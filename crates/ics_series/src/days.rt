@@ -347,6 +347,7 @@ impl<'a> Days<'a> {
             &self.versions,
             &places.near,
             &mut self.spans,
+            &mut self.marks,
             leads,
             over,
         );

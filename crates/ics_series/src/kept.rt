@@ -6,6 +6,7 @@ ghost use Rattle.ics_listing.specs.FileClocks.{Clock};
 ghost use Rattle.ics_series.specs.Chosen.{IsMaster};
 ghost use Rattle.ics_series.specs.Inner.Ended.{AreMovedOff, IsOverPart};
 ghost use Rattle.ics_series.specs.Inner.Kept.{AreKept, IsKeptIn, IsPartOf};
+ghost use Rattle.ics_series.specs.Inner.Marks.{StayMarks};
 ghost use Rattle.ics_series.specs.PlacedEvents.{Placed};
 ghost use Rattle.ics_starts.specs.KeptLocals.{IsKeptOf};
 
@@ -14,7 +15,7 @@ use crate::version::Version;
 use ics_days::Span;
 use ics_event::Event;
 use ics_listing::Lead;
-use ics_starts::KeptLocals;
+use ics_starts::{KeptLocals, Mark};
 use std::alloc::{AllocError, Global};
 
 /// Makes places for it, at which nothing is known.
@@ -78,13 +79,15 @@ fn put_at<'a>(kept: &mut Vec<Option<Box<KeptLocals<'a>>>>, known: Box<KeptLocals
     }
 }
 
-/// Keeps what is known at the end of a day, each at its place. Where nothing that was given lasts longer, the spans are moved on.
-#[tactic(auto, using(crate::proofs::OverLemmas::moved_none))]
+/// Keeps what is known at the end of a day, each at its place. Where nothing that was given lasts longer, the spans and
+/// the marks are moved on.
+#[tactic(auto, using(crate::proofs::OverLemmas::moved_none, crate::proofs::OverLemmas::stay_none))]
 pub(crate) fn give_back<'a>(
     kept: &mut Vec<Option<Box<KeptLocals<'a>>>>,
     versions: &[Version<'a>],
     near: &[usize],
     spans: &mut Vec<Span>,
+    marks: &mut Vec<Option<Mark>>,
     leads: Vec<Lead<'a, Part<'a>>>,
     over: bool,
 )
@@ -92,13 +95,15 @@ pub(crate) fn give_back<'a>(
         → AreKept files display kept.old.items → AreKept files display kept.new.items }
     ensures spans { AreMovedOff versions.entry.now near.entry.now
         (λ s day. over ≡ true → AllByRecursion (λ l. IsOverPart s day l.feed) leads.entry.items) spans.old.items spans.new.items }
+    ensures marks { StayMarks versions.entry.now (λ files display. AllByRecursion (λ l. IsPartOf files display l.feed) leads.entry.items)
+        marks.old.items marks.new.items }
 {
     // The first is that of the events that start once, of which nothing is kept.
     if leads.len() < 2 {
         return;
     }
     for lead in leads {
-        if let Some(known) = lead.into_feed().end(versions, near, spans, over) {
+        if let Some(known) = lead.into_feed().end(versions, near, spans, marks, over) {
             put_at(kept, known);
         }
     }

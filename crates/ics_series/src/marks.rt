@@ -21,11 +21,11 @@ pub(crate) fn mark_at(marks: &[Option<Mark>], place: usize) -> Option<Mark>
     *marks.get(place)?
 }
 
-/// Puts a mark at a place, if there is one.
+/// Puts a mark at a place, if there are both.
 pub(crate) fn put_mark(marks: &mut Vec<Option<Mark>>, place: usize, mark: Option<Mark>)
     ensures { IsPut marks.old.items place mark marks.new.items }
 {
-    if place < marks.len() {
+    if mark.is_some() && place < marks.len() {
         marks[place] = mark;
     }
 }

@@ -12,9 +12,9 @@ ghost use Rattle.ics_listing.specs.After.{is_after};
 ghost use Rattle.ics_listing.specs.Entry.{entry_cmp, key_rank, Entry};
 ghost use Rattle.ics_listing.specs.Listing.{IsIn, IsListing};
 ghost use Rattle.ics_listing.specs.Rising.{Rises};
-ghost use Rattle.ics_series.specs.Inner.Kept.{AreKept};
+ghost use Rattle.ics_series.specs.Inner.Kept.{AreKept, IsPartOf};
 ghost use Rattle.ics_series.specs.Inner.Ended.{AreMovedOff, IsMasterAt, IsOverPart};
-ghost use Rattle.ics_series.specs.Inner.Marks.{AreMarks};
+ghost use Rattle.ics_series.specs.Inner.Marks.{AreMarks, StayMarks};
 ghost use Rattle.ics_starts.specs.RuleMarks.{IsBegun, IsMarkOf};
 ghost use Rattle.ics_series.specs.Inner.Masters.{AreFrom, HasLists, HasSources, IsBehind, IsOfVersion, IsSince, IsSourceOf, Recurs, named_by};
 ghost use Rattle.ics_days.specs.NearPlaces.{AreNear, AreSameBut};
@@ -133,7 +133,7 @@ fn move_on(
         return Ok(());
     }
     let span = Span {
-        first: series.quiet(),
+        first: series.quiet().to,
         last: Moment::MAX,
     };
     put_span(spans, place, span);
@@ -141,16 +141,18 @@ fn move_on(
 }
 
 /// Moves on the span at the place of a series with nothing to come, if that is a near one of its version and the series does not begin later
-/// than the span. It is apart from the end of a day, on most of which nothing recurs.
+/// than the span. The mark is moved on too, if the series tells one. It is apart from the end of a day, on most of which nothing recurs.
 #[inline(never)]
-#[tactic(auto, using(crate::proofs::OverLemmas::moved_none))]
+#[tactic(auto, using(crate::proofs::OverLemmas::moved_none, crate::proofs::OverLemmas::stay_none))]
 pub(crate) fn move_off(
     versions: &[Version<'_>],
     near: &[usize],
     spans: &mut Vec<Span>,
+    marks: &mut Vec<Option<Mark>>,
     ended: &PlacedSeries<'_>,
 )
-    ensures { AreMovedOff versions.now near.now (λ s day. IsOverPart s day (part.Series ended.now)) spans.old.items spans.new.items }
+    ensures spans { AreMovedOff versions.now near.now (λ s day. IsOverPart s day (part.Series ended.now)) spans.old.items spans.new.items }
+    ensures marks { StayMarks versions.now (λ files display. IsPartOf files display (part.Series ended.now)) marks.old.items marks.new.items }
 {
     let place = ended.place;
     if first_at(spans, place) < ended.series.since() {
@@ -163,11 +165,13 @@ pub(crate) fn move_off(
     if !is_near(near, place) {
         return;
     }
+    let quiet = ended.series.quiet();
     let span = Span {
-        first: ended.series.quiet(),
+        first: quiet.to,
         last: Moment::MAX,
     };
     put_span(spans, place, span);
+    put_mark(marks, place, quiet.mark);
 }
 
 /// Whether a place is a near one.

@@ -8,7 +8,7 @@ use crate::version::Version;
 use ics_days::Span;
 use ics_event::Event;
 use ics_listing::{Begins, Coming, Feed, Holding, Occurrence};
-use ics_starts::{KeptLocals, Series};
+use ics_starts::{KeptLocals, Mark, Series};
 use ics_values::Moment;
 use std::alloc::AllocError;
 
@@ -35,26 +35,29 @@ impl<'a> Part<'a> {
     ghost use Rattle.ics_listing.specs.FileClocks.{Clock};
     ghost use Rattle.ics_series.specs.Inner.Ended.{AreMovedOff, IsOverPart};
     ghost use Rattle.ics_series.specs.Inner.Kept.{IsKeptIn, IsPartOf};
+    ghost use Rattle.ics_series.specs.Inner.Marks.{StayMarks};
 
     /// Ends it, with nothing to come. What is known of the rule that it was searched by is given back, if that is kept. Where
-    /// nothing that was given lasts longer, the span of a master is moved on.
-    #[tactic(auto, using(crate::proofs::OverLemmas::moved_none))]
+    /// nothing that was given lasts longer, the span and the mark of a master are moved on.
+    #[tactic(auto, using(crate::proofs::OverLemmas::moved_none, crate::proofs::OverLemmas::stay_none))]
     pub(crate) fn end(
         self,
         versions: &[Version<'a>],
         near: &[usize],
         spans: &mut Vec<Span>,
+        marks: &mut Vec<Option<Mark>>,
         over: bool,
     ) -> Option<Box<KeptLocals<'a>>>
         ensures kept { (files : List FileSaid) (display : Clock) → IsPartOf files display self.entry → IsKeptIn files display result }
         ensures spans { AreMovedOff versions.entry.now near.entry.now (λ s day. over ≡ true → IsOverPart s day self.entry)
             spans.old.items spans.new.items }
+        ensures marks { StayMarks versions.entry.now (λ files display. IsPartOf files display self.entry) marks.old.items marks.new.items }
     {
         match self {
             Part::Singles(_) => None,
             Part::Series(placed) => {
                 if over {
-                    move_off(versions, near, spans, &placed);
+                    move_off(versions, near, spans, marks, &placed);
                 }
                 let PlacedSeries { series, .. } = placed;
                 Box::into_inner(series).into_kept()

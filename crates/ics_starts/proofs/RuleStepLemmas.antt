@@ -10,7 +10,7 @@ use Rattle.ics_fields.specs.declared.local.Local.{Local}
 use Rattle.jiff_core.specs.Calendar.{IsBetween, IsWithin}
 use Rattle.ics_rule.specs.Cursors.{place_of, IsCursorOf}
 use Rattle.ics_rule.specs.Kept.{until_moment}
-use Rattle.ics_fields.specs.Locals.{day_of_local, local_at, local_seconds, number, midnight, whole_days, year_seconds}
+use Rattle.ics_fields.specs.Locals.{calendar_end, day_of_local, local_at, local_seconds, number, midnight, whole_days, year_seconds}
 use Rattle.ics_rule.specs.Next.{NoneKept, IsNextKept}
 use Rattle.ics_period.specs.Recurrence.{Recurrence}
 use Rattle.ics_period.proofs.Tests.{and_true}
@@ -182,6 +182,11 @@ module _ (s : RuleStarts) where
   pub next-years : IsBetween (year_seconds 0) (year_seconds 10_000) s.next
   unfolding IsCursorOf
   next-years = (omega (arith, ints, s.reached.low, s.reached.next_on), omega (arith, ints, s.reached.next_read, s.own.inside))
+
+  -- and so is the place
+  pub place-years : s.place < calendar_end
+  unfolding IsCursorOf
+  place-years = let inside = s.own.inside in omega (arith, inside, s.placed)
 
   -- a local after the next one to be read, and no more than 26 hours later than the window's end, is of these years
   pub passed-day : {last day : ℤ} → s.next <ℤ last → last ≤ℤ (s.window.to +ℤ pos 93_599) → day ≡ day_of_local last → IsDayNumber day

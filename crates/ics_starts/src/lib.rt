@@ -25,7 +25,7 @@ mod zones;
 pub use instants::instant;
 pub use kept_locals::KeptLocals;
 pub use laws::{each_start, most_in_days, none_excluded, one_start, raw_counted, starts_by_until};
-pub use mark::Mark;
+pub use mark::{Mark, Quiet};
 pub use replaced::Replaced;
 pub use series::Series;
 pub use single::Single;

@@ -9,13 +9,22 @@ ghost use Rattle.ics_starts.specs.RuleStarts.{midnight_number, HasLookedTo};
 
 use ics_fields::Parts;
 use ics_rule::{Cursor, Rule};
-use ics_values::Local;
+use ics_values::{Local, Moment};
 
 /// The cursor of a rule, as it was when a search for the rule's starts began at a local.
 #[derive(Clone, Copy)]
 pub struct Mark {
     pub(crate) from: Local,
     pub(crate) cursor: Cursor,
+}
+
+/// How long nothing of a series begins after a window, and where a later search of its rule can begin.
+#[derive(Clone, Copy)]
+pub struct Quiet {
+    /// Nothing begins before this instant.
+    pub to: Moment,
+    /// Where the search of the rule is, if a later one hardly begins before that.
+    pub mark: Option<Mark>,
 }
 
 impl Mark {

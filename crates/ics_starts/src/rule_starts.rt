@@ -27,7 +27,7 @@ use crate::exclusion::Exclusions;
 use crate::instants::{bounds, instant_in, is_in, no_stretch, stretch_by};
 use crate::kept_locals::{KeptLocals, ended, known_next, leave, next};
 use crate::listed::lesser_past;
-use crate::mark::{Mark, begun};
+use crate::mark::{Mark, Quiet, begun};
 use crate::starts::{end_nearby, is_until};
 use crate::zones::FileZones;
 use ics_event::{Event, Time};
@@ -42,6 +42,8 @@ const CLOSE: i64 = 3_600;
 
 /// The number of the local 1970-01-01T00:00:00.
 const EPOCH: i64 = 62_167_219_200;
+
+const DAY: i64 = 86_400;
 
 /// How many seconds pass before the clock is asked anew, where it tells no stretch.
 const MINUTE: i64 = 60;
@@ -687,15 +689,20 @@ impl<'a> RuleStarts<'a> {
     }
 
     /// An instant before which no local after DTSTART gives a start, of those from the first that was read
-    /// on and at the window's end or later, whatever the window.
-    pub(crate) fn quiet(&self) -> Moment
-        ensures { AreQuiet (clocks_in self.now.zones) self.now.event.now self.now.rule self.now.window (number self.now.from) result }
+    /// on and at the window's end or later, whatever the window. Under COUNT the mark knows it, if there is one.
+    pub(crate) fn quiet(&self) -> Quiet
+        ensures to { AreQuiet (clocks_in self.now.zones) self.now.event.now self.now.rule self.now.window (number self.now.from) result.to }
+        ensures mark { MatchOption result.mark (Unit {0}) (IsCountMark self.now.rule) }
     {
         let event = self.event;
         match self.rule.until_moment() {
-            Some(until) if until < self.window.to => Moment::MAX,
+            Some(until) if until < self.window.to => Quiet {
+                to: Moment::MAX,
+                mark: None,
+            },
             _ => {
-                let next = self.cursor.quiet(&self.rule);
+                let mut cursor = self.cursor;
+                let next = cursor.quiet(&self.rule);
                 let settled = settled_by(
                     event.start.stamp,
                     self.bounds.most,
@@ -704,9 +711,35 @@ impl<'a> RuleStarts<'a> {
                 );
                 // They are after a settled instant.
                 let after = settled + 1;
-                self.beyond.min(after)
+                let to = self.beyond.min(after);
+                Quiet {
+                    to,
+                    mark: self.mark_before(cursor, to),
+                }
             }
         }
+    }
+
+    /// A mark of a cursor at the place of the search, if the rule has COUNT, and if nothing begins up to an instant that is so late that a later search
+    /// hardly begins before the place.
+    fn mark_before(&self, cursor: Cursor, to: Moment) -> Option<Mark>
+        requires own { IsCursorOf self.now.rule cursor }
+        requires place { place_of cursor ≡ self.now.place }
+        requires looked { HasLookedTo self.now.rule self.now.from self.now.asked cursor }
+        ensures { MatchOption result (Unit {0}) (IsCountMark self.now.rule) }
+    {
+        let event = self.event;
+        let _count = event.rule.as_ref()?.parts().count?;
+        let from = Local::numbered(self.place);
+        let days = i64::from(from.day).saturating_sub(i64::from(self.from.day));
+        let late = self
+            .window
+            .to
+            .saturating_add(days.saturating_add(2).saturating_mul(DAY));
+        if to < late || from.day < self.asked {
+            return None;
+        }
+        Some(Mark { from, cursor })
     }
 
     /// Where the search begins. Nothing was read yet.

@@ -15,7 +15,7 @@ ghost use Rattle.ics_starts.specs.Found.{counts_from, first_met, AreRunning, IsS
 ghost use Rattle.ics_listing.specs.FileClocks.{Clock};
 ghost use Rattle.ics_listing.specs.Listing.{IsIn};
 ghost use Rattle.ics_starts.specs.KeptLocals.{IsKeptOf};
-ghost use Rattle.ics_starts.specs.RuleMarks.{IsBegun, IsMarkOf};
+ghost use Rattle.ics_starts.specs.RuleMarks.{IsBegun, IsCountMark, IsMarkOf};
 ghost use Rattle.ics_starts.specs.Quiet.{AreQuiet};
 ghost use Rattle.ics_listing.specs.Merged.{cut};
 ghost use Rattle.ics_listing.specs.Rising.{Rises, Rises-prop};
@@ -37,7 +37,7 @@ use crate::kept_locals::KeptLocals;
 use crate::kind::kind_of;
 use crate::lasting::lasting_by;
 use crate::listed::{counts_from, listed_again, push_listed, running};
-use crate::mark::{Mark, counted};
+use crate::mark::{Mark, Quiet, counted};
 use crate::occurrence::met_by;
 use crate::replaced::Replaced;
 use crate::rule_starts::RuleStarts;
@@ -288,12 +288,16 @@ fn listed_from(listed: &ListedStarts) -> Moment
 }
 
 /// An instant before which no local after DTSTART gives a start, of those from the first that was read on and
-/// at the window's end or later.
-fn rule_quiet(rule: &Option<RuleStarts<'_>>) -> Moment
-    ensures { MatchOption rule.now (Unit {0}) (λ s. AreQuiet (clocks_in s.zones) s.event.now s.rule s.window (number s.from) result) }
+/// at the window's end or later, and a mark of the rule, if there is one.
+fn rule_quiet(rule: &Option<RuleStarts<'_>>) -> Quiet
+    ensures to { MatchOption rule.now (Unit {0}) (λ s. AreQuiet (clocks_in s.zones) s.event.now s.rule s.window (number s.from) result.to) }
+    ensures mark { MatchOption rule.now (result.mark ≡ None) (λ s. MatchOption result.mark (Unit {0}) (IsCountMark s.rule)) }
 {
     match rule {
-        None => Moment::MAX,
+        None => Quiet {
+            to: Moment::MAX,
+            mark: None,
+        },
         Some(starts) => starts.quiet(),
     }
 }
@@ -428,12 +432,17 @@ impl<'a> Series<'a> {
     }
 
     /// An instant before which no occurrence begins, of those that begin at the window's end or later and are
-    /// of the series.
-    pub fn quiet(&self) -> Moment
-        ensures { IsQuietTo (clocks_in self.now.zones) self.now.event.now self.now.window self.now.since result }
+    /// of the series. A mark may tell where a later search of its rule can begin.
+    pub fn quiet(&self) -> Quiet
+        ensures to { IsQuietTo (clocks_in self.now.zones) self.now.event.now self.now.window self.now.since result.to }
+        ensures mark { IsMarkOf self.now.event.now result.mark }
     {
         let listed = listed_again(self.zones, self.event, self.window.to);
-        listed.min(rule_quiet(&self.rule_starts))
+        let quiet = rule_quiet(&self.rule_starts);
+        Quiet {
+            to: listed.min(quiet.to),
+            mark: quiet.mark,
+        }
     }
 
     /// Passes over locals that the rule need not be read for, since what they give is removed or has ended.

@@ -9,7 +9,7 @@ use Rattle.ics_period.specs.PeriodNumbers.{day_of, rules_end}
 use Rattle.ics_period.specs.Candidates.{is_stepped, lets_date, lets_clock, period_in}
 use Rattle.ics_period.specs.Ranks.{count, is_chosen}
 use Rattle.ics_period.specs.RecurrencePeriods.{first_local, IsPeriodOf}
-use Rattle.ics_rule.specs.Cursors.{is_met, fresh, HasBegun, HeldBy, CountedBy, looks_from, HasLookedIn, IsCounted, IsCursorIn}
+use Rattle.ics_rule.specs.Cursors.{is_met, fresh, HasBegun, HeldBy, CountedBy, looks_from, HasLookedIn, IsCounted, IsCursorIn, NoneChosenAfter}
 
 -- the rule allows no local from one on and before another
 abbrev pub NoneLetIn : EffectiveRule → ℕ → ℕ → Type 0
@@ -101,7 +101,7 @@ pub record IsTurned (q : EffectiveRule) (start : ℕ) (o : Option ℕ) (turn : �
   pub held : cursor.held ≡ Some p
   pub product : IsPeriodOf q p
   pub number : p.number ≡ turn
-  pub counted : MatchOption o (Unit {0}) (λ c. IsCounted q start c cursor.counted cursor.limit p)
+  pub counted : MatchOption o (Unit {0}) (λ c. IsCounted q start c cursor.counted cursor.limit cursor.quiet_to p)
 
 -- how far a walk over the periods has come: nothing from the place on is chosen in a period before this one, to which the cursor may turn
 pub record IsWalk (q : EffectiveRule) (start : ℕ) (o : Option ℕ) (stop number : ℕ) (before now : Cursor) : Type 0 where
@@ -122,4 +122,18 @@ pub record IsOut (q : EffectiveRule) (start : ℕ) (o : Option ℕ) (number : �
 
 -- a cursor after a look at a period
 abbrev pub after_look : Cursor → RecurrencePeriod → ℕ → Cursor
-after_look c p counted = record { place = c.place; steps = c.steps + 1; held = Some p; counted = counted; limit = c.limit }
+after_look c p counted = record { place = c.place; steps = c.steps + 1; held = Some p; counted = counted; limit = c.limit; quiet_to = 0 }
+
+-- a cursor stays as it was, but for how far nothing is chosen
+abbrev pub IsSameButQuiet : Cursor → Cursor → Type 0
+IsSameButQuiet before now = now ≡ record before { quiet_to = now.quiet_to }
+
+-- a cursor under COUNT holds a period earlier than the one with a number, and nothing is chosen after it up to the place
+pub record IsAhead (q : EffectiveRule) (start : ℕ) (o : Option ℕ) (own : ℕ) (cursor : Cursor) : Type 0 where
+  pub count : ℕ
+  pub some : o ≡ Some count
+  pub period : RecurrencePeriod
+  pub held : cursor.held ≡ Some period
+  pub early : period.number < own
+  pub place : cursor.place ≤ cursor.quiet_to
+  pub none : NoneChosenAfter q start period.number cursor.quiet_to

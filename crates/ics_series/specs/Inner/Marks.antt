@@ -1,11 +1,13 @@
 -- The marks of versions: where searches for the starts of their rules began, so that later searches can go on from there.
-use Rattle.std.specs.Prelude.{◌≡◌, ◌⊎◌, ℕ, List, Option, Some, is_none, true, slice_get}
+use Rattle.std.specs.Prelude.{◌≡◌, ◌⊎◌, ℕ, List, Option, Some, is_none, map, true, slice_get}
 use Rattle.std.specs.Coded.{Π_prop}
 use Rattle.std.specs.List.{AllByRecursion}
 use Rattle.ics_file.specs.File.{FileSaid}
+use Rattle.ics_listing.specs.FileClocks.{Clock}
 use Rattle.ics_event.specs.declared.event.Event.{Event}
 use Rattle.ics_series.specs.Spots.{event_at}
-use Rattle.ics_series.specs.Versions.{Label}
+use Rattle.ics_series.specs.Versions.{seen, AreChosen, Label}
+use Rattle.ics_series.specs.declared.version.Version.{Version}
 use Rattle.ics_starts.specs.declared.mark.Mark.{Mark}
 use Rattle.ics_starts.specs.RuleMarks.{IsMarkOf, mark-prop}
 
@@ -22,6 +24,11 @@ HasNoMark marks = AllByRecursion (λ mark. is_none mark ≡ true) marks
 -- Of the marks at a later time each was there before, or it is this one, at this place.
 abbrev pub IsPut : List (Option Mark) → ℕ → Option Mark → List (Option Mark) → Type 0
 IsPut old place mark new = (k : ℕ) (m : Option Mark) → slice_get new k ≡ Some m → (slice_get old k ≡ Some m) ⊎ ((k ≡ place) × (m ≡ mark))
+
+-- the marks of versions stay such, in files of which something is known
+pub record StayMarks (versions : List Version) (IsKnown : List FileSaid → Clock → Type 0) (old new : List (Option Mark)) : Type 0 where
+  pub still : (files : List FileSaid) (display : Clock) → AreChosen files display versions → IsKnown files display
+      → AreMarks files (map seen versions) old → AreMarks files (map seen versions) new
 
 pub marks-prop : (files : List FileSaid) (labels : List Label) (marks : List (Option Mark)) → IsProp (AreMarks files labels marks)
 marks-prop files labels marks =

@@ -5,11 +5,11 @@ use Rattle.std.proofs.lemmas.Iterator.Consumers.{YieldsList-end}
 use Rattle.ics_series.specs.Inner.Ended.{IsOverPart}
 use Rattle.ics_series.specs.Inner.Kept.{IsPartOf}
 use Rattle.ics_series.proofs.KnownLemmas.{all-last}
-use Rattle.ics_series.proofs.OverLemmas.{moved-as, moved-more, moved_none}
+use Rattle.ics_series.proofs.OverLemmas.{moved-as, moved-more, moved_none, stay-more, stay_none}
 use Rattle.ics_series.proofs.kept.give_back.Goals as goal
 
 pub loop-lead-init : goal.loop-lead-init
-loop-lead-init c = record { kept = λ files display parts are. are; spans = moved_none c.args.spans.now.items }
+loop-lead-init c = record { kept = λ files display parts are. are; spans = moved_none c.args.spans.now.items; marks = stay_none c.args.marks.now.items }
 
 pub loop-lead-preserved-in-Some-end : goal.loop-lead-preserved-in-Some-end
 loop-lead-preserved-in-Some-end c = record {
@@ -18,6 +18,7 @@ loop-lead-preserved-in-Some-end c = record {
       c.put_at.ensures files display (c.loop-lead.invariant.kept files display both.0 are)
       (rw c.in-Some-end.is at (c.end.ensures.kept files display (subst (IsPartOf files display) (sym c.into_feed.ensures) both.1)));
   spans = moved-more (λ l. l.feed) c.loop-lead.yielded c.in-Some.lead c.into_feed.ensures c.loop-lead.invariant.spans c.end.ensures.spans;
+  marks = stay-more (λ l. l.feed) c.loop-lead.yielded c.in-Some.lead c.into_feed.ensures c.loop-lead.invariant.marks c.end.ensures.marks;
 }
 
 pub loop-lead-preserved : goal.loop-lead-preserved
@@ -25,6 +26,7 @@ loop-lead-preserved c = record {
   kept = λ files display parts are.
       c.loop-lead.invariant.kept files display (all-last c.loop-lead.yielded c.in-Some.lead (λ l. IsPartOf files display l.feed) parts).0 are;
   spans = moved-more (λ l. l.feed) c.loop-lead.yielded c.in-Some.lead c.into_feed.ensures c.loop-lead.invariant.spans c.end.ensures.spans;
+  marks = stay-more (λ l. l.feed) c.loop-lead.yielded c.in-Some.lead c.into_feed.ensures c.loop-lead.invariant.marks c.end.ensures.marks;
 }
 
 pub returns : goal.returns
@@ -37,4 +39,8 @@ returns c =
           c.loop-lead.invariant.kept files display (subst (AllByRecursion (λ l. IsPartOf files display l.feed)) (sym all) parts) are;
       spans = moved-as c.loop-lead.invariant.spans
           (λ s day known over. subst (AllByRecursion (λ l. IsOverPart s day l.feed)) (sym all) (known over));
+      marks = record {
+        still = λ files display chosen parts are.
+            c.loop-lead.invariant.marks.still files display chosen (subst (AllByRecursion (λ l. IsPartOf files display l.feed)) (sym all) parts) are;
+      };
     }

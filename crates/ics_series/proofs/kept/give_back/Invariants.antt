@@ -4,6 +4,7 @@ use Rattle.ics_file.specs.File.{FileSaid}
 use Rattle.ics_listing.specs.FileClocks.{Clock}
 use Rattle.ics_series.specs.Inner.Ended.{AreMovedOff, IsOverPart}
 use Rattle.ics_series.specs.Inner.Kept.{AreKept, IsPartOf}
+use Rattle.ics_series.specs.Inner.Marks.{StayMarks}
 use Rattle.ics_series.proofs.kept.give_back.Given as goal
 
 abbrev pub invariant-loop-lead : goal.invariant-loop-lead
@@ -12,4 +13,5 @@ invariant-loop-lead l = record {
       → AreKept files display l.initial.kept.items → AreKept files display l.kept.items;
   spans : AreMovedOff l.versions l.near (λ s day. l.over ≡ true → AllByRecursion (λ x. IsOverPart s day x.feed) l.yielded)
       l.initial.spans.items l.spans.items;
+  marks : StayMarks l.versions (λ files display. AllByRecursion (λ x. IsPartOf files display x.feed) l.yielded) l.initial.marks.items l.marks.items;
 }

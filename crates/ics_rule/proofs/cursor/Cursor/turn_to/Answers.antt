@@ -47,6 +47,7 @@ left : (c : After-taken_before) {k : ℕ} → c.args.search.now.count ≡ Some k
 left c e =
     let held = rw c.in-Some.is at c.requires.turn.held in
     let passed = rw (e, c.in-Some.is) at c.requires.turn.passed in record {
+      quiet_to = c.args.self.now.quiet_to;
       some = c.args.search.now.interval;
       own = held.0;
       counted = rw (e, c.in-Some.is) at c.requires.turn.counted;

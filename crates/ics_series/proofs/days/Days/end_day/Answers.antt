@@ -20,6 +20,7 @@ use Rattle.ics_series.specs.Inner.Ended.{IsOver, IsOverPart}
 use Rattle.ics_series.specs.Inner.SpanLaws.{spans-after-prop}
 use Rattle.ics_series.specs.Versions.{seen}
 use Rattle.ics_series.specs.Inner.Kept.{kept-prop, IsPartOf}
+use Rattle.ics_series.specs.Inner.Marks.{marks-prop}
 use Rattle.ics_series.specs.Sources.{recurring}
 use Rattle.ics_series.proofs.days.Days.end_day.Goals as goal
 
@@ -58,7 +59,11 @@ invariant_of-self c =
           (over-all scope self.today.day (recurring (agenda_sources self.today.agenda)) c.requires.none
           soon self.today.agenda.apart.1.0 are (self.ended (omega (arith, ints, soon, within.1, short.0))))))
           self.spanned);
-      marked = self.marked;
+      marked = ∥∥₁_elim c.args.self.now.masters (marks-prop files (map seen self.versions.items) c.give_back.new.marks.items) (λ are.
+          (rw c.deref.ensures.value at c.give_back.ensures.marks).still files display (chosen-back files display self.versions.items self.chosen)
+          (subst (AllByRecursion (λ l. IsPartOf files display l.feed)) (sym c.end-leads.ensures.leads)
+          (parts-of files display (λ l. l.feed) self.today.agenda.merge.leads.items
+          (day-masters scope self.today.day (recurring (agenda_sources self.today.agenda)) are))) self.marked);
       known = ∥∥₁_elim c.args.self.now.masters (kept-prop files display c.give_back.new.kept.items) (λ are.
           c.give_back.ensures.kept files display
           (subst (AllByRecursion (λ l. IsPartOf files display l.feed)) (sym c.end-leads.ensures.leads)

@@ -31,8 +31,8 @@ settled_by-settled-requires-clause-next c =
     let second = c.quiet-next.result.second_in in
     (omega (arith, ints, c.seconds.ensures, day.0, day.1, second), omega (arith, ints, c.seconds.ensures, day.0, day.1, second))
 
-pub returns-in-Some : goal.returns-in-Some
-returns-in-Some c =
+pub returns-in-Some-clause-to : goal.returns-in-Some-clause-to
+returns-in-Some-clause-to c =
     let s = c.args.self.now in
     quiet-ended s _ (sym c.until_moment.ensures ∙ c.in-Some.is)
     (omega (arith, ints, c.if-until-self.true, s.window.ordered, s.window.not_early, s.window.not_late))
@@ -55,12 +55,15 @@ overflow_add-after c =
     let near = settled-near s.event.now.start.stamp s.bounds.most c.quiet-next.result s.rule_of.bounded.most_short c.quiet-next.ensures.day in
     omega (arith, ints, settled (goal.at.overflow_add-after c).After-settled_by-settled, near)
 
-pub returns-in_default : goal.returns-in_default
-returns-in_default c =
+pub returns-in_default-clause-to : goal.returns-in_default-clause-to
+returns-in_default-clause-to c =
     let s = c.args.self.now in
     let least : SFits w64 c.args.self.now.beyond = search rules in
     let settles : SFits w64 c.settled_by-settled.result = search rules in
-    let is = settled (goal.at.returns-in_default c).After-settled_by-settled in
+    let is = settled (goal.at.returns-in_default-clause-to c).After-settled_by-settled in
     let near = settled-near s.event.now.start.stamp s.bounds.most c.quiet-next.result s.rule_of.bounded.most_short c.quiet-next.ensures.day in
-    quiet-by s c.quiet-next.result c.quiet-next.ensures.none c.quiet-next.ensures.day (omega (arith, ints, int_min_is, c.min.ensures))
-    (omega (arith, ints, int_min_is, c.min.ensures, is, near))
+    quiet-by s c.quiet-next.result c.quiet-next.ensures.none c.quiet-next.ensures.day (omega (arith, ints, int_min_is, c.min-to.ensures))
+    (omega (arith, ints, int_min_is, c.min-to.ensures, is, near))
+
+pub mark_before-requires-clause-looked : goal.mark_before-requires-clause-looked
+mark_before-requires-clause-looked c = λ before h. c.quiet-next.ensures.looked _ before (c.args.self.now.looked before h)
