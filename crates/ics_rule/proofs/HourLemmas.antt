@@ -25,7 +25,7 @@ use Rattle.ics_period.proofs.Tests.{and_true}
 use Rattle.ics_rule.proofs.NextLemmas.{kept_later}
 
 -- the locals of a day lie in one period, but under a rule that repeats more often than daily
-same_period : (f : Frequency) (w n m : ℕ) → skips_hours f ≡ true → day_of n ≡ day_of m → period f w n ≡ period f w m
+pub same_period : (f : Frequency) (w n m : ℕ) → skips_hours f ≡ true → day_of n ≡ day_of m → period f w n ≡ period f w m
 same_period f w n m h l = grind (arith, nat_tests)
 
 -- UNTIL lets in what is earlier than a local that it lets in

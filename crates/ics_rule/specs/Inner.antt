@@ -1,5 +1,6 @@
 -- Words of private contracts and of proofs: no public clause reaches them.
 pub mod HoursKept
+pub mod DaysKept
 pub mod Searches
 pub mod Rounds
 pub mod OpenPeriods

@@ -1,14 +1,15 @@
 -- Which locals a rule keeps (RFC 5545, 3.3.10).
-use Rattle.std.specs.Prelude.{◌≡◌, ℕ, ◌/◌, Bool, true, ◌&&◌, ◌||◌, ◌==◌, nat_le, nat_lt, Option, Some, None, ℤ}
+use Rattle.std.specs.Prelude.{◌≡◌, ℕ, ◌/◌, ◌^◌, ◌<◌, Bool, true, ◌&&◌, ◌||◌, ◌==◌, nat_le, nat_lt, Option, Some, None, ℤ}
 use Rattle.ics_fields.specs.declared.until.Until.{Until}
 use Rattle.ics_fields.specs.declared.until.Until.TheVariants as until
 use Rattle.ics_fields.specs.Days.{day_index}
 use Rattle.ics_fields.specs.Sets.{contains}
 use Rattle.ics_period.specs.declared.kind.Kind.{Kind}
 use Rattle.ics_period.specs.declared.kind.Kind.TheVariants.{Date, DateTime}
+use Rattle.ics_rule.specs.declared.day.DayTimes.{DayTimes}
 use Rattle.ics_rule.specs.declared.hour.HourTimes.{HourTimes}
 use Rattle.ics_period.specs.Recurrence.{Recurrence}
-use Rattle.ics_period.specs.PeriodNumbers.{day_of, minute_of, second_of, rules_end}
+use Rattle.ics_period.specs.PeriodNumbers.{day_of, hour_of, minute_of, second_of, rules_end}
 use Rattle.ics_fields.specs.Locals.{number, local_seconds}
 use Rattle.ics_period.specs.EffectiveRules.{effective}
 use Rattle.ics_period.specs.Ranks.{count, is_chosen}
@@ -55,3 +56,11 @@ until_moment r = until_moment_of r.kind r.parts.until
 abbrev pub KeepsTimes : Recurrence → ℕ → HourTimes → Type 0
 KeepsTimes r hour times =
     (n : ℕ) → n / 3_600 ≡ hour → is_kept r n ≡ (contains times.minutes (minute_of n) && contains times.seconds (second_of n))
+
+-- of the locals of a day, a rule keeps those with one of some hours, one of some minutes and one of some seconds
+pub record KeepsDay (r : Recurrence) (day : ℕ) (times : DayTimes) : Type 0 where
+  pub kept : (n : ℕ) → day_of n ≡ day → is_kept r n
+      ≡ (contains times.hours (hour_of n) && contains times.minutes (minute_of n) && contains times.seconds (second_of n))
+  pub hours : times.hours < 2 ^ 24
+  pub minutes : times.minutes < 2 ^ 60
+  pub seconds : times.seconds < 2 ^ 60

@@ -24,7 +24,7 @@ fn after_day(day: i32) -> u64
 }
 
 /// The first local after UNTIL, or after the last of the rules.
-fn until_end(kind: Kind, until: Option<Until>) -> u64
+pub(crate) fn until_end(kind: Kind, until: Option<Until>) -> u64
     requires { MatchOption until (Unit {0}) IsUntil }
     ensures { (n : ℕ) → n < rules_end → is_by_until kind until n ≡ nat_lt n result }
 {

@@ -3,6 +3,7 @@
 
 mod count;
 mod cursor;
+mod day;
 mod each_day;
 mod filled;
 mod given;
@@ -21,6 +22,7 @@ mod table;
 mod walk;
 
 pub use cursor::Cursor;
+pub use day::DayTimes;
 pub use hour::HourTimes;
 pub use ics_period::{Kind, numbered_weeks, ranks_are_places, weeks_from_monday, weeks_of_a_year};
 pub use laws::{
