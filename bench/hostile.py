@@ -207,6 +207,12 @@ def in_alike(count, names, parts, *more):
     return calendar(lines)
 
 
+def apart(count, rule):
+    """So many observances since the year 0001, a minute apart, with an offset each, that begin by a rule."""
+    return [part('STANDARD', '00010101T00%02d00' % number, '+%02d00' % (number % 23), '+%02d00' % ((number + 1) % 23), 'RRULE:' + rule)
+            for number in range(count)]
+
+
 def far_apart(zones, count):
     """So many daily events a hundred years apart in each of so many time zones of two hourly observances that fall together."""
     lines = []
@@ -443,6 +449,18 @@ ROWS = [
      lambda: rules(6, 'FREQ=SECONDLY;INTERVAL=8401;BYDAY=MO,TU,WE,TH,FR,SA;BYMINUTE=8;BYMONTHDAY=1'), AGES[:2], 8, 32),
     ('seconds of twenty minutes of three hours on a Monday, a window of ages',
      lambda: rules(1, 'FREQ=SECONDLY;INTERVAL=3607;BYDAY=MO;BYHOUR=0,1,2;BYMINUTE=' + listed(range(0, 60, 3))), AGES[:2], 4, 32),
+    ('3 events of 36,525 days in a time zone of 4 observances that each begin each day of a year',
+     lambda: in_alike(3, ['odd'], apart(4, 'FREQ=YEARLY;BYDAY=' + WEEK), LONG, 'RRULE:FREQ=DAILY'), DAY, 4, 32),
+    ('each tenth day in that zone, a window of ages', lambda: in_alike(1, ['odd'], apart(4, 'FREQ=YEARLY;BYDAY=' + WEEK), 'RRULE:FREQ=DAILY;INTERVAL=10'),
+     AGES[:2], 6, 32),
+    ('2 events of 36,525 days in a time zone of 4 observances that each begin on the odd days of a month',
+     lambda: in_alike(2, ['odd'], apart(4, 'FREQ=YEARLY;BYMONTHDAY=' + listed(range(1, 32, 2))), LONG, 'RRULE:FREQ=DAILY'), DAY, 4, 32),
+    ('each tenth day in a time zone of 7 daily observances, a window of ages',
+     lambda: in_alike(1, ['odd'], apart(7, 'FREQ=DAILY'), 'RRULE:FREQ=DAILY;INTERVAL=10'), AGES[:2], 8, 32),
+    ('10 events of 36,525 days in a time zone of 20 daily observances', lambda: in_alike(10, ['odd'], apart(20, 'FREQ=DAILY'), LONG, 'RRULE:FREQ=DAILY'),
+     DAY, 16, 32),
+    ('6 yearly events in a time zone that begins on some Wednesdays that end a month, a window of ages',
+     lambda: in_alike(6, ['odd'], apart(1, 'FREQ=DAILY;INTERVAL=29;BYMONTHDAY=31;BYDAY=WE'), LONG, 'RRULE:FREQ=YEARLY'), AGES[:2], 4, 32),
     ('400,000 faulty events, --keep-going', lambda: faulty(400_000), [*DAY, '--keep-going'], 12, 256),
 ]
 

@@ -38,8 +38,8 @@ const DAY: i64 = 86_400;
 
 const HOUR: i64 = 3_600;
 
-/// Onsets are found for so many seconds at most: a thousand years.
-const LONGEST: i64 = 1_000 * 366 * DAY;
+/// Onsets are found for so many seconds at most: ten thousand years.
+const LONGEST: i64 = 10_000 * 366 * DAY;
 
 /// No offset of an observance is greater.
 const SHORT: i64 = 86_399;
