@@ -1,13 +1,15 @@
 //! The locals of an hour that a rule keeps.
-ghost use Rattle.std.specs.Prelude.{◌≡◌, ℕ, ◌+◌, ◌*◌, ◌<◌, ◌≤◌, ◌/◌, true, false, IfSome, MatchOption};
+ghost use Rattle.std.specs.Prelude.{◌≡◌, ℕ, ◌+◌, ◌*◌, ◌<◌, ◌≤◌, ◌/◌, ◌%◌, true, false, IfSome, MatchOption};
 ghost use Rattle.ics_fields.specs.Sets.{contains};
 ghost use Rattle.ics_fields.specs.Locals.{number, calendar_end};
 ghost use Rattle.ics_rule.specs.Next.{NoneKept, IsNextKept};
-ghost use Rattle.ics_rule.specs.Kept.{KeepsTimes};
+ghost use Rattle.ics_period.specs.Recurrence.{Recurrence};
+ghost use Rattle.ics_rule.specs.Kept.{KeepsDay, KeepsTimes};
 ghost use Rattle.ics_rule.specs.Inner.HoursKept.{IsFirstTime, IsLastTime, KeepsEnds};
 ghost use Rattle.ics_period.specs.PeriodNumbers.{rules_end};
 
 use crate::cursor::Cursor;
+use crate::day::DayTimes;
 use crate::rule::Rule;
 use ics_fields::{BitSet, Local};
 use ics_period::{lets, skips_hours};
@@ -31,6 +33,25 @@ fn greatest(set: BitSet) -> u8
         from = n + 1;
     }
     last
+}
+
+impl DayTimes {
+    /// Those of an hour of the day.
+    fn of_hour(&self, hour: u8) -> HourTimes
+        ensures { (r : Recurrence) (h : ℕ) → h % 24 ≡ hour → KeepsDay r (h / 24) self.now → KeepsTimes r h result }
+    {
+        if self.hours.contains(hour) {
+            HourTimes {
+                minutes: self.minutes,
+                seconds: self.seconds,
+            }
+        } else {
+            HourTimes {
+                minutes: BitSet::new(),
+                seconds: BitSet::new(),
+            }
+        }
+    }
 }
 
 impl HourTimes {
@@ -94,12 +115,16 @@ fn keeps_ends(rule: &Rule, start: u64, hour: u64, kept: u64, times: &HourTimes) 
 }
 
 impl Rule {
-    /// The minutes and the seconds that the rule lists, if they are the first and the last that it keeps in an hour. They are in each
-    /// hour but those that the start, UNTIL or COUNT cuts, under any rule without BYSETPOS.
+    /// The minutes and the seconds of an hour at which the rule keeps its locals: those of its day, if they are known, and else those that the rule
+    /// lists, if they are the first and the last that it keeps in the hour. They are in each hour but those that the start, UNTIL or COUNT cuts, under any
+    /// rule without BYSETPOS.
     pub fn hour(&self, hour: u64) -> Option<HourTimes>
         requires { hour < rules_end / 3_600 }
         ensures { IfSome result (KeepsTimes self.now hour) }
     {
+        if let Some(times) = self.day((hour / 24) as u32) {
+            return Some(times.of_hour((hour % 24) as u8));
+        }
         let start = self.start.number();
         let Some(kept) = first_of_hour(self, start, hour) else {
             return Some(HourTimes {
