@@ -8,6 +8,7 @@ pub mod EndLemmas
 pub mod MomentLemmas
 pub mod LatestLemmas
 pub mod KeptLemmas
+mod NearLemmas
 pub mod SixtyLemmas
 pub mod MinuteLemmas
 pub mod HourLemmas

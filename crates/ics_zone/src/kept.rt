@@ -7,6 +7,7 @@ ghost use Rattle.ics_zone.specs.Inner.Latest.{IsLastKept, IsKnownLast};
 ghost use Rattle.ics_period.specs.PeriodNumbers.{rules_end};
 
 use crate::clock::RULES_END;
+use crate::near::{last_near, next_near};
 use ics_fields::Local;
 use ics_rule::{Cursor, Rule};
 
@@ -25,7 +26,7 @@ pub(crate) fn next_kept(rule: &Rule, from: u64, bound: u64) -> Option<u64>
 
 /// The last kept local that is earlier than a bound. The search begins a little before the bound, and goes twice as far back each time
 /// that it finds none.
-pub(crate) fn last_kept(rule: &Rule, ago: u64, bound: u64) -> Option<u64>
+pub(crate) fn last_kept(rule: &Rule, by_days: bool, ago: u64, bound: u64) -> Option<u64>
     requires { bound ≤ rules_end }
     ensures { MatchOption result (NoneKept rule.now 0 bound) (IsLastKept rule.now bound) }
 {
@@ -33,7 +34,7 @@ pub(crate) fn last_kept(rule: &Rule, ago: u64, bound: u64) -> Option<u64>
     let mut back = ago.max(1);
     while end > 0 {
         let from = end.saturating_sub(back);
-        if let Some(last) = last_between(rule, from, end) {
+        if let Some(last) = last_near(rule, by_days, from, end) {
             return Some(last);
         }
         end = from;
@@ -43,7 +44,7 @@ pub(crate) fn last_kept(rule: &Rule, ago: u64, bound: u64) -> Option<u64>
 }
 
 /// The last kept local from a place on that is earlier than a bound. Mostly there is just one.
-pub(crate) fn last_between(rule: &Rule, from: u64, bound: u64) -> Option<u64>
+pub(crate) fn last_between(rule: &Rule, by_days: bool, from: u64, bound: u64) -> Option<u64>
     requires from { from ≤ rules_end }
     requires bound { bound ≤ rules_end }
     ensures { MatchOption result (NoneKept rule.now from bound) (IsLastKept rule.now bound) }
@@ -56,7 +57,7 @@ pub(crate) fn last_between(rule: &Rule, from: u64, bound: u64) -> Option<u64>
     }
     match cursor.next(rule, end) {
         None => Some(first),
-        Some(second) => Some(last_from(rule, first, second.number(), bound)),
+        Some(second) => Some(last_from(rule, by_days, first, second.number(), bound)),
     }
 }
 
@@ -68,7 +69,7 @@ pub(crate) struct Known {
 }
 
 /// What is known after a look from a place on: a later kept local, or that none is kept from there on.
-fn after_look(rule: &Rule, known: Known, from: u64) -> Known
+fn after_look(rule: &Rule, by_days: bool, known: Known, from: u64) -> Known
     requires after { known.last < from }
     requires from { from ≤ rules_end }
     requires end { known.end ≤ rules_end }
@@ -76,7 +77,7 @@ fn after_look(rule: &Rule, known: Known, from: u64) -> Known
     ensures later { known.last ≤ result.last }
     ensures earlier { result.end ≤ known.end }
 {
-    match next_kept(rule, from, known.end) {
+    match next_near(rule, by_days, from, known.end) {
         Some(last) => Known {
             last,
             end: known.end,
@@ -90,7 +91,7 @@ fn after_look(rule: &Rule, known: Known, from: u64) -> Known
 
 /// The last kept local that is earlier than a bound, given two kept locals that follow each other. The gap between two is the guess for the
 /// gap before the bound. If the guess fails, the rest is halved.
-fn last_from(rule: &Rule, first: u64, second: u64, bound: u64) -> u64
+fn last_from(rule: &Rule, by_days: bool, first: u64, second: u64, bound: u64) -> u64
     requires kept { is_kept rule.now second ≡ true }
     requires order { first < second }
     requires early { second < bound }
@@ -102,11 +103,16 @@ fn last_from(rule: &Rule, first: u64, second: u64, bound: u64) -> u64
         last: second,
         end: bound,
     };
-    known = after_look(rule, known, (bound.saturating_sub(gap)).max(second + 1));
-    while let Some(next) = next_kept(rule, known.last + 1, known.end) {
+    known = after_look(
+        rule,
+        by_days,
+        known,
+        (bound.saturating_sub(gap)).max(second + 1),
+    );
+    while let Some(next) = next_near(rule, by_days, known.last + 1, known.end) {
         known.last = next;
         let middle = known.last + (known.end - known.last) / 2 + 1;
-        known = after_look(rule, known, middle);
+        known = after_look(rule, by_days, known, middle);
     }
     known.last
 }

@@ -221,6 +221,13 @@ pub(crate) fn overrides(onsets: &[Onsets], place: usize, offset: i32, moment: Mo
     true
 }
 
+/// Whether the observance at a place has an onset that is after an instant and not after another.
+pub(crate) fn turns_after(onsets: &[Onsets], place: usize, after: Moment, moment: Moment) -> bool
+    requires { All IsSound onsets.now }
+{
+    place < onsets.len() && onsets[place].last_after(after, moment).is_some()
+}
+
 /// The first onset after an instant that begins another offset than one, if it is before a limit, and else the limit.
 pub(crate) fn next_other(onsets: &[Onsets], offset: i32, after: Moment, limit: Moment) -> Moment
     requires sound { All IsSound onsets.now }

@@ -15,6 +15,7 @@ mod jiff_zone;
 mod kept;
 mod latest;
 mod laws;
+mod near;
 mod observed;
 mod onset_laws;
 mod onsets;

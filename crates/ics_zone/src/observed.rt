@@ -18,7 +18,7 @@ use crate::clock::{FIRST_HELD, LAST_HELD, is_moment};
 use crate::gap_stretch::{Jump, greatest};
 use crate::latest::{
     Latest, Steady, clear_after, find_each, first_listed, first_offset, latest_of, latest_within,
-    look_on, next_change, next_other, next_past, overrides,
+    look_on, next_change, next_other, next_past, overrides, turns_after,
 };
 use crate::onsets::Onsets;
 use crate::seconds::OffsetEachSecond;
@@ -153,6 +153,8 @@ pub struct Observed {
     onsets: Vec<Onsets>,
     /// How many seconds back the search for an onset goes at first.
     ago: i64,
+    /// The place of an observance whose rule has locals on most days.
+    often: usize,
     /// How many spans are made for one instant.
     at_once: usize,
     /// How many onsets may still be listed.
@@ -210,6 +212,7 @@ impl Observed {
             return Err(ZoneFault::Memory);
         };
         let ago = least_ago(&onsets);
+        let often = first_often(&onsets);
         let at_once = spans_at_once(observances.len(), offsets.len());
         let room = onsets_listed(observances.len());
         let listed_near = onsets_near(observances.len());
@@ -218,6 +221,7 @@ impl Observed {
             observances: zone,
             onsets,
             ago,
+            often,
             at_once,
             room,
             listed_near,
@@ -1135,6 +1139,9 @@ impl Observed {
         if let Some(held) = self.held_over(from, to) {
             return Some(held);
         }
+        if turns_after(&self.onsets, self.often, from, to) {
+            return None;
+        }
         let steady = self.steady_to(to);
         if steady.from <= from {
             Some(steady)
@@ -1363,6 +1370,16 @@ fn least_ago(onsets: &[Onsets]) -> i64 {
         ago = ago.min(i64::try_from(one.ago).unwrap_or(i64::MAX));
     }
     ago
+}
+
+/// The place of the first observance whose rule has locals on most days, or one past all.
+fn first_often(onsets: &[Onsets]) -> usize {
+    for k in 0..onsets.len() {
+        if onsets[k].by_days {
+            return k;
+        }
+    }
+    onsets.len()
 }
 
 /// How many spans are made for one instant. They are more than usual, if a zone has many offsets: a local that is in no span is looked for

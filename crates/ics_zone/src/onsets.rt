@@ -10,8 +10,9 @@ ghost use Rattle.ics_zone.specs.Inner.Latest.{IsInOrder, IsPassed, IsLast, IsLas
 ghost use Rattle.ics_zone.specs.Inner.OnsetSets.{IsShownTo, IsKeptAt, Has, AreFound, IsSound, AreOnsetsOf, IsListing, IsEnd, held_rule};
 
 use crate::clock::{RULES_END, instant, shown_by};
-use crate::kept::{last_between, last_kept, last_of_all, next_kept};
-use ics_fields::{BitSet, Frequency, Local, Moment, Parts};
+use crate::kept::{last_kept, last_of_all, next_kept};
+use crate::near::{is_often, last_near, next_near, size_of};
+use ics_fields::{Frequency, Local, Moment, Parts};
 use ics_rule::{Kind, Rule};
 use ics_values::Observance;
 use std::alloc::{AllocError, Global};
@@ -33,6 +34,8 @@ pub(crate) struct Onsets {
     pub ago: u64,
     /// Whether a search of the rule may take long.
     pub is_slow: bool,
+    /// Whether days are looked at one by one first.
+    pub by_days: bool,
     /// The onsets after one instant and before another, in order.
     pub found: Vec<Moment>,
     pub known_from: Moment,
@@ -48,17 +51,6 @@ pub(crate) fn passed(listed: &[Moment], moment: Moment) -> usize
     ensures { IsPassed listed.now moment result }
 {
     listed.partition_point(|at| *at <= moment)
-}
-
-/// How many numbers a part lists, or one if it is absent.
-fn size_of(part: BitSet) -> u64 {
-    let mut size: u64 = 0;
-    for n in 0..64_u8 {
-        if part.contains(n) {
-            size = size.saturating_add(1);
-        }
-    }
-    size.max(1)
 }
 
 /// About how many seconds are between two onsets of a rule: a period, divided by the number of times of a day that the rule lists if it is daily.
@@ -81,8 +73,9 @@ fn spacing(observance: &Observance) -> u64 {
 /// The same of a daily rule.
 fn daily_spacing(parts: &Parts) -> u64 {
     let times = size_of(parts.hours)
-        .saturating_mul(size_of(parts.minutes))
-        .saturating_mul(size_of(parts.seconds));
+        .max(1)
+        .saturating_mul(size_of(parts.minutes).max(1))
+        .saturating_mul(size_of(parts.seconds).max(1));
     DAY.saturating_mul(u64::from(parts.interval)) / times.max(1)
 }
 
@@ -110,6 +103,14 @@ fn is_each_day(parts: &Parts) -> bool {
 fn has_slow_rule(observance: &Observance) -> bool {
     match &observance.rule {
         Some(rule) => !is_plain(rule.parts()) && !is_each_day(rule.parts()),
+        None => false,
+    }
+}
+
+/// Whether an observance has a rule that may keep locals on many days.
+fn has_frequent_rule(observance: &Observance) -> bool {
+    match &observance.rule {
+        Some(rule) => is_often(rule.parts()),
         None => false,
     }
 }
@@ -199,6 +200,7 @@ impl Onsets {
             until,
             ago,
             is_slow: has_slow_rule(observance),
+            by_days: has_frequent_rule(observance),
             found: Vec::new(alloc),
             known_from: 0,
             known_to: 0,
@@ -361,7 +363,7 @@ impl Onsets {
             return None;
         };
         let end = self.shown_to(moment);
-        match last_kept(rule, self.ago, end) {
+        match last_kept(rule, self.by_days, self.ago, end) {
             Some(kept) => Some(instant(self.offset_from, kept)),
             None => None,
         }
@@ -395,7 +397,7 @@ impl Onsets {
         };
         let from = shown_by(self.offset_from, after);
         let end = self.shown_to(moment);
-        let kept = last_between(rule, from, end)?;
+        let kept = last_near(rule, self.by_days, from, end)?;
         let last = instant(self.offset_from, kept);
         if last > after { Some(last) } else { None }
     }
@@ -447,7 +449,7 @@ impl Onsets {
         };
         let from = shown_by(self.offset_from, after);
         let end = self.shown_to(limit);
-        match next_kept(rule, from, end) {
+        match next_near(rule, self.by_days, from, end) {
             Some(kept) => instant(self.offset_from, kept),
             None => limit,
         }

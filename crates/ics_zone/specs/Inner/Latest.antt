@@ -1,10 +1,24 @@
--- The last of a set of kept locals, and of instants.
-use Rattle.std.specs.Prelude.{◌≡◌, ℕ, ◌+◌, ◌<◌, ◌≤◌, true, List, length, Option, MatchOption, slice_index_or, ℤ, ◌<ℤ◌, ◌≤ℤ◌}
+-- The last of a set of numbers, of kept locals, and of instants.
+use Rattle.std.specs.Prelude.{◌≡◌, ℕ, ◌+◌, ◌<◌, ◌≤◌, Bool, true, false, List, length, Option, MatchOption, slice_index_or, ℤ, ◌<ℤ◌, ◌≤ℤ◌}
 use Rattle.std.specs.List.{AllWithin}
 use Rattle.ics_period.specs.Recurrence.{Recurrence}
 use Rattle.ics_rule.specs.Kept.{is_kept}
 use Rattle.ics_rule.specs.Next.{NoneKept}
 use Rattle.ics_zone.specs.declared.kept.Known.{Known}
+
+-- no number from one on and before another passes a test
+abbrev pub NoneFrom : (ℕ → Bool) → ℕ → ℕ → Type 0
+NoneFrom test from end = (n : ℕ) → from ≤ n → n < end → test n ≡ false
+
+-- n is the greatest number, below a given one, that passes a test
+pub record IsGreatestBelow (test : ℕ → Bool) (end n : ℕ) : Type 0 where
+  pub passes : test n ≡ true
+  pub below : n < end
+  pub greatest : NoneFrom test (n + 1) end
+
+-- the answer is the greatest number, below a given one, that passes, or None if there is none
+abbrev pub IsLastBelow : (ℕ → Bool) → ℕ → Option ℕ → Type 0
+IsLastBelow test end o = MatchOption o ((n : ℕ) → n < end → test n ≡ false) (IsGreatestBelow test end)
 
 -- n is the greatest kept local before a bound
 pub record IsLastKept (r : Recurrence) (bound n : ℕ) : Type 0 where

@@ -4,12 +4,12 @@ use Rattle.std.proofs.lemmas.Int.{to_z-of_z, ints}
 use Rattle.ics_zone.proofs.KeptLemmas.{next_of_rule, no_next_of_rule}
 use Rattle.ics_zone.proofs.onsets.Onsets.next_by_rule.Goals as goal
 
-pub returns-in-Some-next_kept : goal.returns-in-Some-next_kept
-returns-in-Some-next_kept c =
+pub returns-in-Some-next_near : goal.returns-in-Some-next_near
+returns-in-Some-next_near c =
     let from : SFits w32 c.args.self.now.offset_from = search rules in
     let shown = simp (to_z-of_z, c.ranges.limit) at c.shown_to-end.ensures in
     let past = simp (to_z-of_z, from, c.ranges.after) at c.shown_by-from.ensures in
-    let next = next_of_rule c.args.self.now c.in-Some.is shown past c.in-Some-next_kept.ensures (simp to_z-of_z at c.instant.ensures) in
+    let next = next_of_rule c.args.self.now c.in-Some.is shown past c.in-Some-next_near.ensures (simp to_z-of_z at c.instant.ensures) in
     rw (to_z-of_z w64 c.instant.result (search rules)) (record { after = next.0; bound = next.1.0; next = next.1.1.0; is = λ less. next.1.1.1 })
 
 pub returns-in-None : goal.returns-in-None
