@@ -9,7 +9,7 @@ use Rattle.std.proofs.lemmas.Int.{int_max_is, int_min_is, ints}
 use Rattle.ics_event.specs.declared.event.Event.{Event}
 use Rattle.ics_event.specs.Event.{Rdate}
 use Rattle.ics_fields.specs.Days.{IsDayNumber}
-use Rattle.ics_fields.specs.Locals.{local_seconds, number, whole_days}
+use Rattle.ics_fields.specs.Locals.{number, whole_days}
 use Rattle.ics_fields.specs.RuleParts.{RuleParts}
 use Rattle.ics_fields.specs.declared.local.Local.{Local}
 use Rattle.ics_rule.specs.Cursors.{place_of}
@@ -27,13 +27,11 @@ use Rattle.ics_starts.specs.Clocks.{instant}
 use Rattle.ics_starts.specs.Found.{earliest}
 use Rattle.ics_starts.specs.FileZones.{clocks_in, IsOwnEvent}
 use Rattle.ics_starts.specs.Quiet.{starts_by, AreBeyond, AreListedAgain, AreQuiet, IsFromOn, IsQuietTo}
-use Rattle.ics_starts.specs.RuleStarts.{lets_until, moment_numbered, settled_by}
+use Rattle.ics_starts.specs.RuleStarts.{lets_until, moment_numbered}
 use Rattle.ics_starts.specs.SeriesStarts.{first_of, listed_apart, HasOwnRule, IsOwnRule}
 use Rattle.ics_listing.specs.StartTimes.{local_of, time_at, time_of}
 use Rattle.ics_starts.specs.Starts.{recurrence_by, recurrence_of, GivesStart, IsRuleStart}
 use Rattle.ics_starts.proofs.RawLemmas.{kept-first}
-use Rattle.ics_starts.proofs.RuleDayLemmas.{number-day}
-use Rattle.ics_starts.proofs.SettledLemmas.{late-settled}
 use Rattle.ics_starts.proofs.SoughtLemmas.{earliest-soon}
 use Rattle.ics_listing.proofs.StartOrderLemmas.{calendar-day, number-seconds, own-day, own-time, same-number}
 use Rattle.ics_starts.proofs.StartSourceLemmas.{kept-late, numbered-number, rule-first, ruled-kept}
@@ -112,20 +110,15 @@ module _ (s : RuleStarts) where
       s.past_end (λ n l u by end. late n l u)
 
   -- What is kept from the cursor's place on is not before this local, and so no start before its instant.
-  pub quiet-by : (local : Local) {t : ℤ} → NoneKept s.rule (place_of s.cursor) (number local) → IsDayNumber local.day → t ≤ℤ s.beyond
-      → t ≤ℤ (settled_by s.event.now.start.stamp s.bounds.most local.day (local_seconds local) +ℤ pos 1)
-      → AreQuiet clocks s.event.now s.rule s.window (number s.from) t
-  quiet-by local {t = t} none day less settled n l late = elim (cases_lt n (place_of s.cursor)) [
+  pub quiet-by : (local : Local) {settled t : ℤ} → NoneKept s.rule (place_of s.cursor) (number local) → t ≤ℤ s.beyond → t ≤ℤ (settled +ℤ pos 1)
+      → ((n : ℕ) → number local ≤ n → settled <ℤ moment_numbered clocks s.event.now n) → AreQuiet clocks s.event.now s.rule s.window (number s.from) t
+  quiet-by local {t = t} none less near after n l late = elim (cases_lt n (place_of s.cursor)) [
     | inl early ↦ λ by end. let b = s.past_end n l early by end in omega (arith, ints, b, less)
     | inr past ↦ λ by end. elim (cases_lt n (number local)) [
       | inl before ↦ absurd (
           let no : true ≡ false =
           sym (kept-by clocks s.event.now s.rule s.window (number s.from) n by) ∙ none n past before in cc)
-      | inr on ↦
-          let at = late-settled s.zones s.event.now s.bounds s.rule_of.bounded local.day (local_seconds local) n day
-          (omega (arith, ints, on, number-seconds local day, number-day local.day day))
-          (omega (arith, ints, on, number-seconds local day)) in
-          omega (arith, ints, at, settled)
+      | inr on ↦ let at = after n on in omega (arith, ints, at, near)
     ]
   ]
 

@@ -17,14 +17,14 @@ use Rattle.ics_starts.specs.declared.zones.FileZones.{FileZones}
 use Rattle.ics_starts.specs.Clocks.{clock_at, clock_by, clock_of, is_in, IsBounded, IsStretched}
 use Rattle.ics_starts.specs.Leeway.{seconds_off}
 use Rattle.ics_starts.specs.FileZones.{clocks_in}
-use Rattle.ics_starts.specs.RuleStarts.{local_numbered, midnight_number, moment_numbered, read_from, settled_by, settled_from}
+use Rattle.ics_starts.specs.RuleStarts.{local_numbered, midnight_number, moment_numbered, read_from, settled_from}
 use Rattle.ics_listing.specs.StartTimes.{stamp_at}
 use Rattle.ics_listing.proofs.StartOrderLemmas.{written-at}
 use Rattle.ics_starts.proofs.RuleDayLemmas.{day-written, seconds-numbered}
 use Rattle.ics_starts.proofs.StretchLemmas.{clock-at, inside, stretched-at}
 
 -- the first local that can be read is not after one that is not read yet
-read-late : (s : Stamp) (day next : ℤ) (n : ℕ) → IsDayNumber day → midnight_number day ≤ n → (next +ℤ pos 62_167_219_200) ≤ℤ pos n
+pub read-late : (s : Stamp) (day next : ℤ) (n : ℕ) → IsDayNumber day → midnight_number day ≤ n → (next +ℤ pos 62_167_219_200) ≤ℤ pos n
     → read_from s day next ≤ℤ stamp_seconds (stamp_at s (local_numbered n))
 read-late (Date first) day next n h l m =
     let wrote : stamp_seconds (stamp_at (Date first) (local_numbered n)) ≡ midnight (local_numbered n).day = omega (arith, ints) in
@@ -70,6 +70,15 @@ module _ (s : Stretch) (most first : ℤ) where
       by false e = omega (arith, ints, less)
       by true e = omega (arith, ints, less, short.1, (inside s first e).1, int_min_is (first -ℤ s.offset +ℤ most) s.to)
 
+  -- and which is not later, but by as much as the offset is less than the greatest
+  pub settled-before : IsWithin 93_599 s.offset → IsWithin 93_599 most → settled_from s most first ≤ℤ (first +ℤ whole_days 3)
+  unfolding settled_from
+  settled-before short less = by (is_in s first) refl
+    where
+      by : (known : Bool) → is_in s first ≡ known → settled-if known ≤ℤ (first +ℤ whole_days 3)
+      by false e = omega (arith, ints, less)
+      by true e = omega (arith, ints, less, short, int_min_is (first -ℤ s.offset +ℤ most) s.to)
+
 -- Where the clock of DTSTART stays between two offsets.
 module _ (zones : FileZones) (event : Event) (b : Bounds) (bounded : IsBounded (clock_of (clocks_in zones) event.start) b) where
   -- a local as it is written
@@ -81,19 +90,19 @@ module _ (zones : FileZones) (event : Event) (b : Bounds) (bounded : IsBounded (
       (subst (λ (clock : Clock). IsBounded clock b) (sym (clock-at (clocks_in zones) event.start.zone event.start.stamp (local_numbered n))) bounded).moments
       (written n)
 
-  -- a local that is not read yet means an instant after the settled one
-  pub late-settled : (day next : ℤ) (n : ℕ) → IsDayNumber day → midnight_number day ≤ n → (next +ℤ pos 62_167_219_200) ≤ℤ pos n →
-      settled_by event.start.stamp b.most day next <ℤ moment_numbered (clocks_in zones) event n
-  late-settled day next n h l m = omega (arith, ints, (near n).0, read-late event.start.stamp day next n h l m)
+  -- a local from one on means an instant after the one that is settled by a stretch
+  pub late-from : (s : Stretch) → IsStretched (clock_of (clocks_in zones) event.start) s → (first : ℤ) (n : ℕ) → first ≤ℤ written n
+      → settled_from s b.most first <ℤ moment_numbered (clocks_in zones) event n
+  late-from s stretched first n on =
+      after-settled s b.most first (written n) (moment_numbered (clocks_in zones) event n) on (near n).0
+      ((stretched-at (clocks_in zones) event.start (local_numbered n) s stretched).moments (written n))
 
-  -- and so it does where a stretch is known
+  -- and so does one that is not read yet
   pub late-stretched : (s : Stretch) → IsStretched (clock_of (clocks_in zones) event.start) s → (day next : ℤ) (n : ℕ) → IsDayNumber day
       → midnight_number day ≤ n → (next +ℤ pos 62_167_219_200) ≤ℤ pos n
       → settled_from s b.most (read_from event.start.stamp day next) <ℤ moment_numbered (clocks_in zones) event n
   late-stretched s stretched day next n h l m =
-      after-settled s b.most (read_from event.start.stamp day next) (written n) (moment_numbered (clocks_in zones) event n)
-      (read-late event.start.stamp day next n h l m) (near n).0
-      ((stretched-at (clocks_in zones) event.start (local_numbered n) s stretched).moments (written n))
+      late-from s stretched (read_from event.start.stamp day next) n (read-late event.start.stamp day next n h l m)
 
   -- a local from a day's midnight on means an instant that is no more before it than the clock is ahead
   pub off-numbered : (day : ℤ) (n : ℕ) → IsDayNumber day → midnight_number day ≤ n →

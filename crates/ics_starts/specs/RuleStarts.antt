@@ -101,11 +101,6 @@ read_from (Floating first) day next = next
 read_from (Utc first) day next = next
 read_from (Zoned first) day next = next
 
--- An instant that is before those of all locals to be read: they are from a day's midnight on, and their seconds from `next` on, on a clock that is
--- at most so many seconds ahead.
-abbrev pub settled_by : Stamp → ℤ → ℤ → ℤ → ℤ
-settled_by first most day next = read_from first day next -ℤ most -ℤ pos 1
-
 -- An instant that is before those of all locals from one on, where a stretch of locals is known: if the first is in it, those in it mean instants by its
 -- offset, and later ones by no more than the greatest.
 unfoldable pub settled_from : Stretch → ℤ → ℤ → ℤ

@@ -14,7 +14,7 @@ ghost use Rattle.ics_starts.specs.KeptLocals.{kept-of-prop, IsKeptOf};
 ghost use Rattle.ics_starts.specs.Quiet.{beyond-prop, AreBeyond};
 ghost use Rattle.ics_listing.specs.Rising.{Rises, Rises-prop};
 ghost use Rattle.ics_starts.specs.Clocks.{clock_of, instant, AreSpansOf, IsBounded, IsStretched};
-ghost use Rattle.ics_starts.specs.RuleStarts.{gives, lets_until, midnight_number, read_from, settled_by, settled_from, with_held};
+ghost use Rattle.ics_starts.specs.RuleStarts.{gives, lets_until, midnight_number, read_from, settled_from, with_held};
 ghost use Rattle.ics_starts.specs.RuleStarts.{AreHeld, HasLookedTo, IsReadTo};
 ghost use Rattle.ics_starts.specs.RuleStartLaws.{cursor-prop, held-prop, looked-prop, read-to-prop, rule-of-prop, stretched-prop, IsRuleOf};
 ghost use Rattle.ics_listing.specs.StartTimes.{local_of, time_at};
@@ -24,7 +24,7 @@ ghost use Rattle.ics_listing.specs.Waiting.{starts_in};
 ghost use Rattle.ics_period.specs.PeriodNumbers.{rules_end};
 
 use crate::exclusion::Exclusions;
-use crate::instants::{bounds, instant_in, is_in, no_stretch, stretch_by};
+use crate::instants::{bounds, instant_in, is_in, no_stretch, stretch, stretch_by};
 use crate::kept_locals::{KeptLocals, ended, known_next, leave, next};
 use crate::listed::lesser_past;
 use crate::mark::{Mark, Quiet, begun};
@@ -42,6 +42,9 @@ const CLOSE: i64 = 3_600;
 
 /// The number of the local 1970-01-01T00:00:00.
 const EPOCH: i64 = 62_167_219_200;
+
+/// The seconds of the local 9801-01-01T00:00:00, from which on no rule keeps one.
+const LAST: i64 = 247_122_489_600;
 
 const DAY: i64 = 86_400;
 
@@ -144,19 +147,6 @@ fn read_from(start: Stamp, day: i32, next: Moment) -> Moment
     }
 }
 
-/// An instant that is before those of all locals of a day and later ones, of which none is before one in
-/// seconds, on a clock that is at most so many seconds ahead of UTC. A date is read at its midnight.
-fn settled_by(start: Stamp, most: i64, day: i32, next: Moment) -> Moment
-    requires most { IsWithin 93_599 most }
-    requires next { IsBetween (year_seconds 0) (year_seconds 10_000) next }
-    ensures { result ≡ settled_by start most day next }
-{
-    match start {
-        Stamp::Date(_) => Local::at(day, 0).seconds() - most - 1,
-        _ => next - most - 1,
-    }
-}
-
 /// The end, in seconds, of the locals from one on that a stretch shows at instants before another. If the first is before the stretch, there is
 /// none.
 fn shown_before(stretch: Stretch, next: Moment, moment: Moment) -> Moment
@@ -236,7 +226,7 @@ impl<'a> RuleStarts<'a> {
     ghost use Rattle.ics_starts.specs.RuleFeed.{held_in, is_unsettled, settled_in, starts_left, HasEnded, HasLeapt, HasSameSource, HasSkipped};
     ghost use Rattle.ics_starts.specs.RuleFeed.{AreTakenOut, HasStayed, IsAmid, IsEarlier, IsPast};
     ghost use Rattle.ics_fields.specs.Locals.{local_seconds};
-    ghost use Rattle.ics_starts.specs.RuleStarts.{found, is_ready, steps_left, to_come};
+    ghost use Rattle.ics_starts.specs.RuleStarts.{found, is_ready, moment_numbered, steps_left, to_come};
     ghost use Rattle.ics_starts.specs.FileZones.{IsOwnEvent};
     ghost use Rattle.ics_starts.specs.RuleMarks.{IsCountMark};
     ghost use Rattle.ics_starts.specs.Quiet.{AreQuiet};
@@ -694,7 +684,6 @@ impl<'a> RuleStarts<'a> {
         ensures to { AreQuiet (clocks_in self.now.zones) self.now.event.now self.now.rule self.now.window (number self.now.from) result.to }
         ensures mark { MatchOption result.mark (Unit {0}) (IsCountMark self.now.rule) }
     {
-        let event = self.event;
         match self.rule.until_moment() {
             Some(until) if until < self.window.to => Quiet {
                 to: Moment::MAX,
@@ -703,12 +692,7 @@ impl<'a> RuleStarts<'a> {
             _ => {
                 let mut cursor = self.cursor;
                 let next = cursor.quiet(&self.rule);
-                let settled = settled_by(
-                    event.start.stamp,
-                    self.bounds.most,
-                    next.day,
-                    next.seconds(),
-                );
+                let settled = self.settled_at(next);
                 // They are after a settled instant.
                 let after = settled + 1;
                 let to = self.beyond.min(after);
@@ -718,6 +702,32 @@ impl<'a> RuleStarts<'a> {
                 }
             }
         }
+    }
+
+    /// An instant that is before those of all locals from one on.
+    fn settled_at(&self, next: Local) -> Moment
+        requires { IsDayNumber next.day }
+        ensures after { (n : ℕ) → number next ≤ n → result <ℤ moment_numbered (clocks_in self.now.zones) self.now.event.now n }
+        ensures near { result <ℤ pos 1_000_000_000_000 }
+    {
+        let event = self.event;
+        let read = read_from(event.start.stamp, next.day, next.seconds());
+        let first = read.min(LAST);
+        let stretch = self.stretch_about(first);
+        settled_from(stretch, self.bounds.most, first)
+    }
+
+    /// The stretch that is known or, where that does not hold a local, given by its seconds, the one about it that the clock tells. The clock
+    /// is not asked if it always shows one offset.
+    fn stretch_about(&self, local: Moment) -> Stretch
+        requires { IsMoment local }
+        ensures { IsStretched (clock_of (clocks_in self.now.zones) self.now.event.now.start) result }
+    {
+        let event = self.event;
+        if self.bounds.least == self.bounds.most || is_in(self.stretch, local) {
+            return self.stretch;
+        }
+        stretch(self.zones, event.start, local)
     }
 
     /// A mark of a cursor at the place of the search, if the rule has COUNT, and if nothing begins up to an instant that is so late that a later search

@@ -2,7 +2,6 @@ use Rattle.std.proofs.Common.{◌≡◌, ◌∙◌, sym, subst, arith, is_some, 
 use Rattle.std.proofs.lemmas.Int.{ints}
 use Rattle.ics_fields.specs.Locals.{number}
 use Rattle.ics_rule.specs.Cursors.{HasLooked}
-use Rattle.ics_starts.specs.RuleStarts.{midnight_number}
 use Rattle.ics_starts.proofs.CountLemmas.{looks-counted}
 use Rattle.ics_starts.proofs.RuleStepLemmas.{place-years}
 use Rattle.ics_starts.proofs.rule_starts.RuleStarts.mark_before.Goals as goal
