@@ -46,7 +46,7 @@ fn take_at<'a>(
     }
 }
 
-/// What is known of the rule of a master, whose place this is. If nothing is known yet and the event lasts long, it begins with nothing.
+/// What is known of the rule of a master, whose place this is. If nothing is known yet, it begins with the rule alone.
 pub(crate) fn take_kept<'a>(
     alloc: Global,
     kept: &mut Vec<Option<Box<KeptLocals<'a>>>>,

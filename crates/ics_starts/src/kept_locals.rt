@@ -1,4 +1,4 @@
-//! The locals that searches of a rule have found, so that a later search need not look for them again.
+//! A rule with the locals that searches of it have found, so that a later search need not make it, nor look for them, again.
 ghost use Rattle.std.specs.Prelude.{◌≡◌, ◌<◌, ◌≤◌, Some, MatchOption, IfSome, slice_get};
 ghost use Rattle.std.specs.Option.{option_map};
 ghost use Rattle.ics_fields.specs.Days.{IsDayNumber};
@@ -37,13 +37,16 @@ struct Find {
     local: Option<Local>,
 }
 
-/// The locals that searches of the rule of an event have found. A search follows what the one before it has found, and finds the rest.
+/// The rule of an event and, if the event lasts long, the locals that searches of it have found. A search follows what the one before it has found, and
+/// finds the rest.
 #[derive(Drop)]
 pub struct KeptLocals<'a> {
     event: &'a Event,
     /// Where its owner keeps them.
     place: usize,
     rule: Rule,
+    /// Whether the event lasts so long that finds are worth their place.
+    keeps: bool,
     /// What the searches before have found, in the order of the locals.
     known: Vec<Find>,
     /// The first of these that this search has not passed.
@@ -149,13 +152,10 @@ fn append(finds: &mut Vec<Find>, more: &[Find], from: usize)
 }
 
 impl<'a> KeptLocals<'a> {
-    /// Those of an event that recurs and lasts long: none is known. Its owner keeps them at a place.
+    /// Those of an event with a rule: no local is known. Its owner keeps them at a place.
     pub fn new(alloc: Global, event: &'a Event, place: usize) -> Option<Box<KeptLocals<'a>>>
         ensures { MatchOption result (Unit {0}) (λ kept. kept.value.event ≡ event.entry) }
     {
-        if !is_long(event) {
-            return None;
-        }
         let parts = *event.rule.as_ref()?.parts();
         let first = local_of(event.start.stamp);
         let rule = Rule::new(parts, first, kind_of(event.start.stamp));
@@ -172,6 +172,7 @@ impl<'a> KeptLocals<'a> {
                 event,
                 place,
                 rule,
+                keeps: is_long(event),
                 known: Vec::new(alloc),
                 at: 0,
                 found: Vec::new(alloc),
@@ -186,6 +187,13 @@ impl<'a> KeptLocals<'a> {
         ensures { result ≡ self.now.event }
     {
         self.event
+    }
+
+    /// Its rule.
+    pub(crate) fn rule(&self) -> Rule
+        ensures { recurrence_of self.now.event.now ≡ Some result }
+    {
+        self.rule
     }
 
     /// Where its owner keeps them.
@@ -415,7 +423,7 @@ pub(crate) fn next(
     ensures looked { LooksOn rule.now (known_to (option_map number result) (number to)) cursor.old cursor.new }
 {
     match kept {
-        Some(kept) if place < to.number() => {
+        Some(kept) if kept.keeps && place < to.number() => {
             let mut placed = PlacedCursor {
                 cursor: *cursor,
                 place,

@@ -1,5 +1,5 @@
 //! Where the search of a rule began, so that a later search need not count again under COUNT.
-ghost use Rattle.std.specs.Prelude.{◌≡◌, ◌≤◌, ◌==◌, ◌&&◌, int_lt, nat_le, is_some, true, MatchOption, Some};
+ghost use Rattle.std.specs.Prelude.{◌≡◌, ◌≤◌, ◌==◌, ◌&&◌, int_lt, nat_le, true, MatchOption, Some};
 ghost use Rattle.std.specs.Int.{int_min};
 ghost use Rattle.ics_fields.specs.Days.{IsDayNumber};
 ghost use Rattle.ics_fields.specs.Locals.{number};
@@ -7,7 +7,6 @@ ghost use Rattle.ics_period.specs.PeriodNumbers.{rules_end};
 ghost use Rattle.ics_starts.specs.RuleMarks.{IsBegun, IsCountMark};
 ghost use Rattle.ics_starts.specs.RuleStarts.{midnight_number, HasLookedTo};
 
-use ics_fields::Parts;
 use ics_rule::{Cursor, Rule};
 use ics_values::{Local, Moment};
 
@@ -50,13 +49,10 @@ impl Mark {
 }
 
 /// A mark of a rule, if that has COUNT. Without it a search begins anywhere at once.
-pub(crate) fn counted(parts: Parts, mark: Option<Mark>) -> Option<Mark>
-    ensures { MatchOption result (Unit {0}) (λ m. (mark ≡ Some m) × (is_some parts.count ≡ true)) }
+pub(crate) fn counted(counts: bool, mark: Option<Mark>) -> Option<Mark>
+    ensures { MatchOption result (Unit {0}) (λ m. (mark ≡ Some m) × (counts ≡ true)) }
 {
-    match parts.count {
-        None => None,
-        Some(_) => mark,
-    }
+    if counts { mark } else { None }
 }
 
 /// The cursor of a rule at a local, where its search up to the midnight of day `end` begins. It goes on

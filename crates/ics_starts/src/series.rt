@@ -1,13 +1,15 @@
 //! The occurrences of one event that meet a window, found one by one.
-ghost use Rattle.std.specs.Prelude.{◌≡◌, ◌<◌, ◌≤ℤ◌, ◌-ℤ◌, pos, false, slice_get, true, All, IfOk, IfSome, List, MatchOption, None};
+ghost use Rattle.std.specs.Prelude.{◌≡◌, ◌<◌, ◌≤ℤ◌, ◌-ℤ◌, pos, false, slice_get, true, All, IfOk, IfSome, List, MatchOption, None, Some};
 ghost use Rattle.std.specs.List.Sorted.{IsSorted};
 ghost use Rattle.std.specs.Ordering.{int_cmp};
 ghost use Rattle.ics_event.specs.Event.{IsLasting};
+ghost use Rattle.ics_fields.specs.Days.{IsDayNumber};
 ghost use Rattle.ics_fields.specs.Locals.{number, year_seconds};
 ghost use Rattle.ics_listing.specs.Entry.{entry_cmp};
 ghost use Rattle.ics_starts.specs.EventLaws.{own-event-prop};
 ghost use Rattle.ics_starts.specs.Exclusions.{is_excluded, AreExclusions};
 ghost use Rattle.ics_listing.specs.StartOrder.{moment_cmp};
+ghost use Rattle.ics_listing.specs.StartTimes.{local_of};
 ghost use Rattle.ics_starts.specs.Clocks.{clock_of, AreSpansOf, IsStretched};
 ghost use Rattle.ics_starts.specs.Inner.ClockStretches.{AreKnown};
 ghost use Rattle.ics_starts.specs.Finish.{AreLasting};
@@ -26,6 +28,7 @@ ghost use Rattle.ics_starts.specs.SeriesStarts.{AreEnded, AreLeapt, AreSkipped, 
 ghost use Rattle.ics_starts.specs.SeriesStarts.{IsFirstGiven, IsFirstOf, IsReady, IsRuleFrom};
 ghost use Rattle.ics_listing.specs.KnownStarts.{listed_left};
 ghost use Rattle.ics_starts.specs.FileZones.{clocks_in, IsOwnEvent};
+ghost use Rattle.ics_starts.specs.Starts.{recurrence_of};
 ghost use Rattle.ics_listing.specs.WindowBounds.{lasts_most, occurrence_first};
 ghost use Rattle.ics_listing.specs.declared.start.Start.{Start};
 
@@ -44,6 +47,7 @@ use crate::rule_starts::RuleStarts;
 use crate::starts::{earliest, first_given, first_met, first_nearby, seconds_back, start_at};
 use crate::zones::FileZones;
 use ics_event::Event;
+use ics_fields::Parts;
 use ics_listing::{Begins, Coming, Feed, ListedStarts, Occurrence, Start, Window, local_of};
 use ics_rule::Rule;
 use ics_values::{Duration, Moment};
@@ -113,6 +117,22 @@ fn listed_apart(
     Ok(starts)
 }
 
+/// The rule of an event, which has these parts: the one that is kept, if there is one.
+fn rule_of(event: &Event, parts: &Parts, kept: &Option<Box<KeptLocals<'_>>>) -> Rule
+    requires parts { event.now.rule ≡ Some parts.now }
+    requires day { IsDayNumber (local_of event.now.start.stamp).day }
+    requires kept { IsKeptOf event.now kept.now }
+    ensures { recurrence_of event.now ≡ Some result }
+{
+    match kept {
+        None => {
+            let first = local_of(event.start.stamp);
+            Rule::new(*parts, first, kind_of(event.start.stamp))
+        }
+        Some(kept) => kept.rule(),
+    }
+}
+
 /// The starts that the rule of an event gives, if it has one: those from an instant on and, if the
 /// event is long, earlier ones that can still meet the window.
 fn starts_by_rule<'a>(
@@ -138,9 +158,10 @@ fn starts_by_rule<'a>(
         (λ starts. IsRuleFrom (clocks_in zones.entry) event.entry.now window since listed.entry.now (starts_left starts)) }
     ensures begun { MatchOption result (Unit {0}) (λ starts. IsBegun starts.rule starts.from starts.cursor) }
 {
-    let parts = *event.rule.as_ref()?.parts();
+    let parts = event.rule.as_ref()?.parts();
     let first = local_of(event.start.stamp);
-    let rule = Rule::new(parts, first, kind_of(event.start.stamp));
+    let counts = parts.count.is_some();
+    let rule = rule_of(event, parts, &kept);
     let bounds = bounds(zones, event.start);
     let earliest = earliest(zones, event, &window, met, listed);
     // All instants this late after the window's end are treated as one: no day is read for them.
@@ -149,10 +170,10 @@ fn starts_by_rule<'a>(
     let from = first_nearby(
         first,
         seconds_back(event, bounds),
-        parts.count.is_some(),
+        counts,
         earliest.max(since.min(late)),
     );
-    let mark = counted(parts, mark);
+    let mark = counted(counts, mark);
     Some(RuleStarts::new(alloc, zones, event, window, rule, from, mark, kept))
 }
 

@@ -78,8 +78,8 @@ first_nearby-from-requires-clause-early c =
 
 pub new-requires-clause-mark : goal.new-requires-clause-mark
 new-requires-clause-mark c =
-    let has : recurrence_of c.args.event.now ≡ Some c.new-rule.result = search rules in
-    marked c.args.event.now c.args.mark c.counted-mark.result has c.requires.mark (ap (λ (r : Recurrence). is_some r.parts.count) c.new-rule.ensures)
+    let has = c.rule_of-rule.ensures in
+    marked c.args.event.now c.args.mark c.counted-mark.result has c.requires.mark (search rules)
     c.counted-mark.ensures
 
 pub returns : goal.returns
@@ -128,7 +128,7 @@ returns c =
         low = rw c.new.ensures.from (λ n on before. less-by (low n on before) ends.0);
       };
       from = record {
-        rule = c.new-rule.result;
+        rule = c.rule_of-rule.result;
         has = search rules;
         from = c.first_nearby-from.result;
         day = c.first_nearby-from.ensures.day;
