@@ -87,7 +87,7 @@ pub(crate) fn push_series<'a>(
             continue;
         }
         let event = chosen[place].spot.event(files);
-        // A series takes much room, which is cleared and moved where one may be made.
+        // A series takes much room, which is cleared where one may be made.
         if is_single(event) {
             continue;
         }
@@ -98,11 +98,10 @@ pub(crate) fn push_series<'a>(
         )? {
             let begun = series.mark();
             move_on(spans, place, floor, &mut series)?;
-            let held = Box::new(alloc, series)?;
             let placed = PlacedSeries {
                 place,
                 event,
-                series: held,
+                series,
             };
             parts.push(Part::Series(placed))?;
             put_mark(marks, place, begun);
@@ -192,7 +191,8 @@ fn is_master_at(versions: &[Version<'_>], place: usize, uid: &[u8]) -> bool
 }
 
 /// The feed of the version at a place, if its event recurs. It begins at the instant `begin` or later, as all does
-/// that is to come of the version.
+/// that is to come of the version. It is made apart from what asks for it, so that its room is cleared only here.
+#[inline(never)]
 fn series_at<'a>(
     alloc: Global,
     files: &'a [FileEvents],
@@ -204,7 +204,7 @@ fn series_at<'a>(
     window: Window,
     after: Option<&Key>,
     begin: Moment,
-) -> Result<Option<Series<'a>>, AllocError>
+) -> Result<Option<Box<Series<'a>>>, AllocError>
     requires chosen { AreChosen (map said_by files.now) (display_clock display.now) chosen.now }
     requires within { place < length chosen.now }
     requires mark { (version : Version) (event : Event) → slice_get chosen.now place ≡ Some version
@@ -216,15 +216,15 @@ fn series_at<'a>(
     ensures series { (version : Version) → slice_get chosen.entry.now place ≡ Some version → IfOk result (λ given. MatchOption given
         (Recurs (map said_by files.entry.now) (seen version) → ⊥)
         (λ series. IsListing entry_cmp (IsOfVersion (map said_by files.entry.now) (display_clock display.entry.now) window
-        (option_map (λ key. key_rank key.now) after.entry) (seen version)) (⟦<Series<'a> as Coming>⟧.coming series))) }
+        (option_map (λ key. key_rank key.now) after.entry) (seen version)) (⟦<Series<'a> as Coming>⟧.coming series.value))) }
     ensures since { (version : Version) → slice_get chosen.entry.now place ≡ Some version → IfOk result (λ given. MatchOption given (Unit {0})
         (λ series. IsBehind (map said_by files.entry.now) (display_clock display.entry.now) window
-        (option_map (λ key. key_rank key.now) after.entry) (seen version) series.since)) }
-    ensures begun { IfOk result (λ given. MatchOption given (Unit {0}) (λ series. MatchOption series.rule_starts (Unit {0})
+        (option_map (λ key. key_rank key.now) after.entry) (seen version) series.value.since)) }
+    ensures begun { IfOk result (λ given. MatchOption given (Unit {0}) (λ series. MatchOption series.value.rule_starts (Unit {0})
         (λ s. IsBegun s.rule s.from s.cursor))) }
     ensures sources { (version : Version) → slice_get chosen.entry.now place ≡ Some version → IfOk result (λ given. MatchOption given (Unit {0})
         (λ series. (m : Recurring) × IsSourceOf (map said_by files.entry.now) (display_clock display.entry.now) window
-        (option_map (λ key. key_rank key.now) after.entry) (seen version) m × (series_sources series ≡ Of m ∷ []))) }
+        (option_map (λ key. key_rank key.now) after.entry) (seen version) m × (series_sources series.value ≡ Of m ∷ []))) }
 {
     let version = chosen[place];
     let event = version.spot.event(files);
@@ -245,7 +245,8 @@ fn series_at<'a>(
         known,
         replaced,
     )?;
-    Ok(Some(series))
+    let held = Box::new(alloc, series)?;
+    Ok(Some(held))
 }
 
 /// The instances of the master at a place that overrides replace. These stand behind it.

@@ -1,6 +1,7 @@
 use Rattle.std.proofs.lemmas.Grind.{common_steps}
 use Rattle.std.proofs.Common.{◌≡◌, ◌+◌, ◌<◌, List, [], ◌∷◌, ◌++◌, length, take, Vec, Global, Option, Some, map, get_or, option_map, refl, sym, subst}
 use Rattle.std.proofs.Common.{ap, ◌∙◌, arith, append-nil, rules, to_z, of_z, w64}
+use Rattle.std.specs.Global.{Box}
 use Rattle.std.specs.List.{flat_map}
 use Rattle.std.proofs.lemmas.Int.{ints}
 use Rattle.std.proofs.lemmas.List.{map-append}
@@ -36,25 +37,25 @@ use Rattle.ics_series.proofs.SourceLemmas.{sources-skip}
 use Rattle.ics_series.proofs.SpanLemmas.{come-first, out-version, series-moved}
 use Rattle.ics_series.proofs.VersionLemmas.{stands}
 use Rattle.ics_series.proofs.masters.push_series.Goals as goal
-use Rattle.ics_series.proofs.masters.push_series.Goals.{At-loop-place, In_ok-series, in-Some+in_ok-move_on+in_ok-held+in_ok-push, in_default}
+use Rattle.ics_series.proofs.masters.push_series.Goals.{At-loop-place, In_ok-series, in-Some+in_ok-move_on+in_ok-push, in_default}
 
 -- the spans after a version's own was moved on, or could not be
-moved-on : (c : In_ok-series) (series : Series) {spans : List Span} → c.in_ok-series.field-0 ≡ Some series
-    → IsMovedOn (clocks_in series.zones) series.event.now series.window series.since c.args.floor
-    (series_of series (series_left series)) c.loop-place.spans.items (get_or c.args.near.now c.loop-place.place-index 0) spans
+moved-on : (c : In_ok-series) (held : Box Series) {spans : List Span} → c.in_ok-series.field-0 ≡ Some held
+    → IsMovedOn (clocks_in held.value.zones) held.value.event.now held.value.window held.value.since c.args.floor
+    (series_of held.value (series_left held.value)) c.loop-place.spans.items (get_or c.args.near.now c.loop-place.place-index 0) spans
     → AreMovedOn (map said_by c.args.files.now) (display_clock c.args.display.now) c.args.window c.args.floor (map seen c.args.chosen.now)
     c.args.spans.now.items spans
-moved-on c series is moved =
+moved-on c held is moved =
     let vs = c.args.chosen.now in
     let k = get_or c.args.near.now c.loop-place.place-index 0 in
     let v = get_or c.args.chosen.now k any_version in
     let there = slice_get-get_or vs k any_version (place-within c.requires.near c.loop-place.place-index c.loop-place-test.true) in
     let files = map said_by c.args.files.now in
     let display = display_clock c.args.display.now in
-    let m = MatchOption-at_some _ _ series is (c.in_ok-series.ensures.sources v there) in
-    let listing = MatchOption-at_some _ _ series is (c.in_ok-series.ensures.series v there) in
-    let behind = MatchOption-at_some _ _ series is (c.in_ok-series.ensures.since v there) in
-    let more = series-moved files display c.args.window c.args.floor vs k there series m.1 m.2 behind listing moved in
+    let m = MatchOption-at_some _ _ held is (c.in_ok-series.ensures.sources v there) in
+    let listing = MatchOption-at_some _ _ held is (c.in_ok-series.ensures.series v there) in
+    let behind = MatchOption-at_some _ _ held is (c.in_ok-series.ensures.since v there) in
+    let more = series-moved files display c.args.window c.args.floor vs k there held.value m.1 m.2 behind listing moved in
     let before = c.loop-place.invariant.spans in
     record { size = more.size ∙ before.size; still = λ n later are. more.still n later (before.still n later are) }
 
@@ -71,27 +72,21 @@ others-on c series moved = λ j away.
 
 pub returns-in_err-move_on-clause-spans : goal.returns-in_err-move_on-clause-spans
 returns-in_err-move_on-clause-spans c =
-    moved-on (goal.at.returns-in_err-move_on-clause-spans c).In_ok-series c.in-Some.series c.in-Some.is c.move_on.ensures.spans
-
-pub returns-in_err-held-clause-spans : goal.returns-in_err-held-clause-spans
-returns-in_err-held-clause-spans c =
-    moved-on (goal.at.returns-in_err-held-clause-spans c).In_ok-series c.in-Some.series c.in-Some.is c.move_on.ensures.spans
+    let moved = rw c.deref_mut.ensures.value at c.move_on.ensures.spans in
+    moved-on (goal.at.returns-in_err-move_on-clause-spans c).In_ok-series c.in-Some.series c.in-Some.is moved
 
 pub returns-in_err-push-clause-spans : goal.returns-in_err-push-clause-spans
 returns-in_err-push-clause-spans c =
-    moved-on (goal.at.returns-in_err-push-clause-spans c).In_ok-series c.in-Some.series c.in-Some.is c.move_on.ensures.spans
+    let moved = rw c.deref_mut.ensures.value at c.move_on.ensures.spans in
+    moved-on (goal.at.returns-in_err-push-clause-spans c).In_ok-series c.in-Some.series c.in-Some.is moved
 
 pub returns-in_err-move_on-clause-others : goal.returns-in_err-move_on-clause-others
 returns-in_err-move_on-clause-others c =
-    others-on (goal.at.returns-in_err-move_on-clause-others c).In_ok-series c.in-Some.series c.move_on.ensures.spans
-
-pub returns-in_err-held-clause-others : goal.returns-in_err-held-clause-others
-returns-in_err-held-clause-others c =
-    others-on (goal.at.returns-in_err-held-clause-others c).In_ok-series c.in-Some.series c.move_on.ensures.spans
+    others-on (goal.at.returns-in_err-move_on-clause-others c).In_ok-series c.deref_mut.result.now c.move_on.ensures.spans
 
 pub returns-in_err-push-clause-others : goal.returns-in_err-push-clause-others
 returns-in_err-push-clause-others c =
-    others-on (goal.at.returns-in_err-push-clause-others c).In_ok-series c.in-Some.series c.move_on.ensures.spans
+    others-on (goal.at.returns-in_err-push-clause-others c).In_ok-series c.deref_mut.result.now c.move_on.ensures.spans
 
 -- the event of the series is that of its version
 pub invariant_of-placed : goal.invariant_of-placed
@@ -103,9 +98,8 @@ invariant_of-placed c =
     let m = MatchOption-at_some _ _ c.in-Some.series c.in-Some.is (c.in_ok-series.ensures.sources v there) in
     let own = ap (λ (r : Recurring). r.event) (ap (first_source m.0) m.2) in
     let event = ap (λ o. unwrap_or o m.0.event) (sym m.1.stands ∙ c.event-event.ensures.event) in
-    record {
-      own = ap (λ (s : Series). s.event.now) (c.in_ok-held.ensures.ok) ∙ (ap (λ e. e.now) c.move_on.ensures.same.event ∙ (own ∙ event));
-    }
+    let given = ap (λ (s : Series). s.event.now) c.deref_mut.ensures.value in
+    record { own = ap (λ e. e.now) c.move_on.ensures.same.event ∙ (given ∙ (own ∙ event)) }
 
 -- the lists and the sources up to the place that is looked at, where what lies before it gives nothing
 to-here : (c : At-loop-place) → c.loop-place.place-index < length c.args.near.now
@@ -141,7 +135,8 @@ on-from c l =
 
 -- nothing of a series was read where its mark is taken
 pub mark-begun-requires : goal.mark-begun-requires
-mark-begun-requires c = MatchOption-at_some _ _ c.in-Some.series c.in-Some.is c.in_ok-series.ensures.begun
+mark-begun-requires c =
+    rw c.deref-in-Some.ensures (MatchOption-at_some _ _ c.in-Some.series c.in-Some.is c.in_ok-series.ensures.begun)
 
 pub loop-place-init : goal.loop-place-init
 loop-place-init c = record {
@@ -168,8 +163,10 @@ loop-place-preserved c =
     let files = map said_by c.args.files.now in
     let AreMoved = AreMovedOn files (display_clock c.args.display.now) c.args.window c.args.floor (map seen vs) c.args.spans.now.items in
     elim c.match-branch-2.branch [
-      | in-Some+in_ok-move_on+in_ok-held+in_ok-push w ↦
-          let value : w.in_ok-held.held.value ≡ w.move_on.new.series = w.in_ok-held.ensures.ok in
+      | in-Some+in_ok-move_on+in_ok-push w ↦
+          let value = w.deref_mut.ensures.value in
+          let moved = rw w.deref_mut.ensures.value at w.move_on.ensures.spans in
+          let marked = rw w.deref-in-Some.ensures at w.mark-begun.ensures in
           let m = MatchOption-at_some _ _ w.in-Some.series w.in-Some.is (c.in_ok-series.ensures.sources v there) in
           record {
             looked = (
@@ -180,20 +177,20 @@ loop-place-preserved c =
                   (ap (λ (p : Vec Part Global). map part_coming p.items) w.parts-is ∙ (ap (map part_coming) w.in_ok-push.ensures.items
                   ∙ (map-append part_coming c.loop-place.parts.items _
                   ∙ ap (λ xs. map part_coming c.loop-place.parts.items ++ xs ∷ [])
-                  (ap (λ (s : Series). series_of s (series_left s)) value ∙ w.move_on.ensures.coming)))),
+                  (w.move_on.ensures.coming ∙ ap (λ (s : Series). series_of s (series_left s)) value)))),
               sources-more c.requires.chosen k there here.1 m.1
                   (ap (λ (p : Vec Part Global). flat_map part_sources p.items) w.parts-is ∙ (ap (flat_map part_sources) (w.in_ok-push.ensures.items)
                   ∙ (flat_map-append part_sources c.loop-place.parts.items _
-                  ∙ ap (λ xs. flat_map part_sources c.loop-place.parts.items ++ xs) (append-nil (series_sources w.in_ok-held.held.value)
-                  ∙ (ap series_sources value ∙ (same-sources w.in-Some.series w.move_on.new.series w.move_on.ensures.same ∙ m.2)))))),
+                  ∙ ap (λ xs. flat_map part_sources c.loop-place.parts.items ++ xs) (append-nil (series_sources w.move_on.new.series)
+                  ∙ (same-sources w.deref_mut.result.now w.move_on.new.series w.move_on.ensures.same ∙ (ap series_sources value ∙ m.2)))))),
             );
             spans = subst AreMoved (sym (ap (λ (p : Vec Span Global). p.items) w.spans-is))
-                (moved-on (goal.at.loop-place-preserved c).In_ok-series w.in-Some.series w.in-Some.is w.move_on.ensures.spans);
+                (moved-on (goal.at.loop-place-preserved c).In_ok-series w.in-Some.series w.in-Some.is moved);
             others = subst (AreSameBut c.args.near.now c.args.spans.now.items) (sym (ap (λ (p : Vec Span Global). p.items) w.spans-is))
-                (others-on (goal.at.loop-place-preserved c).In_ok-series w.in-Some.series w.move_on.ensures.spans);
+                (others-on (goal.at.loop-place-preserved c).In_ok-series w.deref_mut.result.now w.move_on.ensures.spans);
             marks = subst (AreMarks files (map seen vs)) (sym (ap (λ (p : Vec (Option Mark) Global). p.items) w.marks-is))
                 (marks-put files (map seen vs) k w.mark-begun.result c.loop-place.marks.items _ c.loop-place.invariant.marks w.put_mark.ensures
-                (own-mark files vs k there w.in-Some.series w.mark-begun.result m.1.stands m.2 w.mark-begun.ensures));
+                (own-mark files vs k there w.in-Some.series.value w.mark-begun.result m.1.stands m.2 marked));
             kept = c.in_ok-series.ensures.kept;
           }
       | in_default w ↦

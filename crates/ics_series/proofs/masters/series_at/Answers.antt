@@ -121,7 +121,7 @@ returns c =
     (λ t. ap (λ xs. is_among xs t) named ∙ named-among own t (map seen c.args.chosen.now)) in
     record {
       series = λ version there.
-          rw (← some-same c.index-chosen-place.result version (sym here ∙ there))
+          rw (← some-same c.index-chosen-place.result version (sym here ∙ there), c.in_ok-held.ensures.ok)
           (series-listing r read c.args.window after c.since_of-since.result since late
           (λ o v low.
           let come = come-since r read c.args.window after c.since_of-since.result since o v in
@@ -132,7 +132,7 @@ returns c =
           (first_source (record
           { clocks = clocks_in c.zones-zones.result; event = c.event-event.result.now; window = c.args.window; since = c.args.window.from }))
           c.in_ok-series.ensures.sources in
-          rw (← some-same c.index-chosen-place.result version (sym here ∙ there))
+          rw (← some-same c.index-chosen-place.result version (sym here ∙ there), c.in_ok-held.ensures.ok)
           (subst (IsBehind (map said_by c.args.files.now) (display_clock c.args.display.now) c.args.window after (seen c.index-chosen-place.result))
           (sym (ap (λ (r : Recurring). r.since) first)) (behind r read c.args.window after c.since_of-since.result since late));
       sources = λ version there. (
@@ -150,12 +150,16 @@ returns c =
               window = refl;
               since = from-later after c.since_of-since.ensures.from late;
             }),
-        c.in_ok-series.ensures.sources,
+        rw c.in_ok-held.ensures.ok c.in_ok-series.ensures.sources,
       );
-      begun = c.in_ok-series.ensures.begun;
+      begun = rw c.in_ok-held.ensures.ok c.in_ok-series.ensures.begun;
       kept = c.take_kept-known.ensures.rest (map said_by c.args.files.now) (display_clock c.args.display.now) c.requires.kept;
     }
 
 pub returns-in_err-series-clause-kept : goal.returns-in_err-series-clause-kept
 returns-in_err-series-clause-kept c =
+    c.take_kept-known.ensures.rest (map said_by c.args.files.now) (display_clock c.args.display.now) c.requires.kept
+
+pub returns-in_err-held-clause-kept : goal.returns-in_err-held-clause-kept
+returns-in_err-held-clause-kept c =
     c.take_kept-known.ensures.rest (map said_by c.args.files.now) (display_clock c.args.display.now) c.requires.kept
