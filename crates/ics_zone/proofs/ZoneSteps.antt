@@ -162,18 +162,6 @@ module _ {zone : List ObservanceSaid} {list : List Onsets} {k : ℕ} {o : Onsets
     less_more at_once lower less i s p l h is early =
         let here = split i s p h l in let low = before i s p in let small = less s in grind (arith, ints)
 
-  -- where its last onset is greater than all those of the observances with an offset, it overrides them
-  pub overridden_by : {t at offset : ℤ} {count : ℕ} → length list ≤ count → IsLast (Has o) t at → AreLessTo zone count offset t at k
-      → IsOverridden zone t offset
-  overridden_by {at = at} past last less = record {
-    place = k;
-    at = at;
-    observance = observance_here.0;
-    onset = (observance_here.1, onsets_here.known at last.is);
-    not_after = last.not_after;
-    greater = λ i s p h is early. less i s p (omega (arith, slice_get_within zone i p h.0)) h is early;
-  }
-
   -- its first onset is the least of all, where it is not later than those of the observances before
   pub first_here : {at new : ℤ} {count : ℕ} → k ≤ count → Has o at → new ≡ o.offset_from
       → ((i : ℕ) (s : ℤ) (p : ObservanceSaid) → i < count → IsOnset zone i s p → IsNotLater at k s i) → IsFirst zone count at new
@@ -209,3 +197,15 @@ module _ {zone : List ObservanceSaid} {list : List Onsets} {k : ℕ} {o : Onsets
 
     pub past_before : after <ℤ next → next ≤ℤ from → IsNextPastTo zone (k + 1) local after next
     past_before more none i s p l h late early = let here = split i s p h l in let low = before i s p in grind (arith, ints, clamps)
+
+-- an onset that is greater than all those of the observances with an offset overrides them
+pub overridden_by : {zone : List ObservanceSaid} {list : List Onsets} {count place : ℕ} {t at offset : ℤ} → AreOnsetsOfAll zone list → length list ≤ count
+    → (p : ObservanceSaid) × IsOnset zone place at p → at ≤ℤ t → AreLessTo zone count offset t at place → IsOverridden zone t offset
+overridden_by {zone = zone} {place = place} {at = at} all past onset not_after less = record {
+  place = place;
+  at = at;
+  observance = onset.0;
+  onset = onset.1;
+  not_after = not_after;
+  greater = λ i s p h is early. less i s p (let count = all.same_length in omega (arith, slice_get_within zone i p h.0)) h is early;
+}

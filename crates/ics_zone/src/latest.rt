@@ -5,7 +5,7 @@ ghost use Rattle.jiff_core.specs.Calendar.{IsWithin};
 ghost use Rattle.ics_zone.specs.Observances.{ObservanceSaid};
 ghost use Rattle.ics_zone.specs.Inner.OnsetSets.{Has, IsSearched, IsSound};
 ghost use Rattle.ics_zone.specs.Seconds.{IsMoment};
-ghost use Rattle.ics_zone.specs.Inner.ZoneOnsets.{AreOnsetsOfAll, IsLatestOf, IsLatestWithin, IsFirstOffset, IsNextPast, IsClear, IsOverridden};
+ghost use Rattle.ics_zone.specs.Inner.ZoneOnsets.{AreOnsetsOfAll, IsLatestOf, IsLatestWithin, IsFirstOffset, IsNextPast, IsClear, IsOnsetOf, IsOverridden};
 ghost use Rattle.ics_zone.specs.Inner.ZoneOnsets.{KeepOffset, StayOffset};
 
 use crate::clock::{EPOCH, FIRST_HELD, LAST_HELD};
@@ -38,6 +38,13 @@ pub(crate) struct Latest {
     pub place: usize,
     pub offset: i32,
 }
+
+/// No onset.
+pub(crate) const NO_ONSET: Latest = Latest {
+    at: Moment::MAX,
+    place: 0,
+    offset: 0,
+};
 
 /// A span of instants in which a zone has one offset, from one instant on and before another.
 #[derive(Clone, Copy)]
@@ -198,23 +205,20 @@ pub(crate) fn first_offset(onsets: &[Onsets]) -> i32
     offset
 }
 
-/// Whether the last onset of the observance at a place, of those not after an instant, is greater than those of the observances with an
-/// offset. If so, the zone has another offset at the instant.
-pub(crate) fn overrides(onsets: &[Onsets], place: usize, offset: i32, moment: Moment) -> bool
+/// Whether an onset that is not after an instant is greater than those of the observances with an offset. If so, the zone has another offset at the
+/// instant.
+pub(crate) fn overrides(onsets: &[Onsets], onset: Latest, offset: i32, moment: Moment) -> bool
     requires { All IsSound onsets.now }
-    ensures { result ≡ true → (zone : List ObservanceSaid) → AreOnsetsOfAll zone onsets.now → IsOverridden zone moment offset }
+    ensures { result ≡ true → (zone : List ObservanceSaid) → AreOnsetsOfAll zone onsets.now → IsOnsetOf zone onset → IsOverridden zone moment offset }
 {
-    if place >= onsets.len() {
+    if onset.at > moment || moment >= Moment::MAX {
         return false;
     }
-    let Some(at) = onsets[place].last(moment) else {
-        return false;
-    };
     for (other, one) in onsets.iter().enumerate() {
         if one.offset_to != offset {
             continue;
         }
-        if has_not_less(one, other >= place, at, moment) {
+        if has_not_less(one, other >= onset.place, onset.at, moment) {
             return false;
         }
     }

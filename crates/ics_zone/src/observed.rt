@@ -10,15 +10,15 @@ ghost use Rattle.ics_zone.specs.Inner.Answers.{AreAnswers};
 ghost use Rattle.ics_fields.specs.Locals.{seconds_at};
 ghost use Rattle.ics_zone.specs.Inner.EachSecond.{TellsOffsets};
 ghost use Rattle.ics_zone.specs.Inner.OnsetSets.{IsSearched};
-ghost use Rattle.ics_zone.specs.Inner.ZoneOnsets.{AreOnsetsOfAll, AreSteady, HaveOffsets, IsLatestOf, IsSteady};
+ghost use Rattle.ics_zone.specs.Inner.ZoneOnsets.{AreOnsetsOfAll, AreSteady, HaveOffsets, IsLatestOf, IsOnsetOf, IsSteady};
 ghost use Rattle.ics_zone.specs.Inner.Tables.{IsTable};
 
 use crate::answers::{Answer, add_answers, group_end};
 use crate::clock::{FIRST_HELD, LAST_HELD, is_moment};
 use crate::gap_stretch::{Jump, greatest};
 use crate::latest::{
-    Latest, Steady, clear_after, find_each, first_listed, first_offset, latest_of, latest_within,
-    look_on, next_change, next_other, next_past, overrides, turns_after,
+    Latest, NO_ONSET, Steady, clear_after, find_each, first_listed, first_offset, latest_of,
+    latest_within, look_on, next_change, next_other, next_past, overrides, turns_after,
 };
 use crate::onsets::Onsets;
 use crate::seconds::OffsetEachSecond;
@@ -397,10 +397,10 @@ impl Observed {
         if let Some(offset) = self.told_offset(moment) {
             return offset;
         }
-        let mut place = 0;
+        let mut hint = NO_ONSET;
         match self.held_over(moment, moment) {
             Some(held) => held.offset,
-            None => self.offset_of_latest(moment, &mut place),
+            None => self.offset_of_latest(moment, &mut hint),
         }
     }
 
@@ -1079,23 +1079,27 @@ impl Observed {
         latest_of(&self.onsets, self.ago, near)
     }
 
-    /// The offset at an instant, by the observances. The place becomes that of the observance in force.
-    fn offset_of_latest(&self, moment: Moment, place: &mut usize) -> i32
+    /// The offset at an instant, by the observances. The hint becomes the onset in force, if there is one.
+    fn offset_of_latest(&self, moment: Moment, hint: &mut Latest) -> i32
+        requires { IsOnsetOf self.now.said.items hint.old }
         ensures means { IsOffset self.now.said.items moment result }
         ensures value { result ≡ zone_offset self.now.said.items moment }
+        ensures hint { IsOnsetOf self.now.said.items hint.new }
     {
         match latest_of(&self.onsets, self.ago, moment) {
             Some(latest) => {
-                *place = latest.place;
+                *hint = latest;
                 latest.offset
             }
             None => first_offset(&self.onsets),
         }
     }
 
-    /// Whether the zone has an offset at an instant. The hint is the place of an observance that was in force at another instant.
-    fn has_offset(&self, moment: Moment, offset: i32, hint: &mut usize) -> bool
-        ensures { MatchBool result (zone_offset self.now.said.items moment ≡ offset) (zone_offset self.now.said.items moment ≢ offset) }
+    /// Whether the zone has an offset at an instant. The hint is an onset that was in force at another instant.
+    fn has_offset(&self, moment: Moment, offset: i32, hint: &mut Latest) -> bool
+        requires { IsOnsetOf self.now.said.items hint.old }
+        ensures hint { IsOnsetOf self.now.said.items hint.new }
+        ensures value { MatchBool result (zone_offset self.now.said.items moment ≡ offset) (zone_offset self.now.said.items moment ≢ offset) }
     {
         if let Some(told) = self.told_offset(moment) {
             return told == offset;
@@ -1160,9 +1164,11 @@ impl Observed {
     }
 
     /// The instant of a local on a clock with this offset, if the offset is the zone's then.
-    fn shown_with(&self, seconds: i64, offset: i32, hint: &mut usize) -> Option<Moment>
+    fn shown_with(&self, seconds: i64, offset: i32, hint: &mut Latest) -> Option<Moment>
         requires bound { IsMoment seconds }
-        ensures { MatchOption result
+        requires hint { IsOnsetOf self.now.said.items hint.old }
+        ensures hint { IsOnsetOf self.now.said.items hint.new }
+        ensures shown { MatchOption result
             (zone_offset self.now.said.items (seconds -ℤ offset) ≢ offset)
             (λ t. (t ≡ seconds -ℤ offset) × (zone_offset self.now.said.items t ≡ offset)) }
     {
@@ -1196,7 +1202,7 @@ impl Observed {
     {
         let offsets = self.offsets.as_slice();
         let mut first: Option<Moment> = None;
-        let mut hint = usize::MAX;
+        let mut hint = NO_ONSET;
         for offset in offsets {
             if is_by(first, seconds - i64::from(*offset)) {
                 continue;

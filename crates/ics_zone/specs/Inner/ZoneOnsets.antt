@@ -1,5 +1,5 @@
 -- The onsets of a zone, observance by observance.
-use Rattle.std.specs.Prelude.{◌≡◌, ℕ, ◌<◌, ◌≤◌, ◌⊎◌, List, length, Option, Some, MatchOption, slice_get, slice_index_or, ℤ, ◌+ℤ◌, ◌<ℤ◌, ◌≤ℤ◌}
+use Rattle.std.specs.Prelude.{◌≡◌, ℕ, ◌<◌, ◌≤◌, ◌⊎◌, List, length, Option, Some, MatchOption, slice_get, slice_index_or, ℤ, pos, ◌+ℤ◌, ◌<ℤ◌, ◌≤ℤ◌}
 use Rattle.std.specs.List.{All, Contains}
 use Rattle.ics_zone.specs.declared.latest.Latest.{Latest}
 use Rattle.ics_zone.specs.declared.latest.Steady.{Steady}
@@ -50,7 +50,11 @@ pub record IsLatest (zone : List ObservanceSaid) (t : ℤ) (count : ℕ) (latest
   pub not_after : latest.at ≤ℤ t
   pub greatest : (i : ℕ) (s : ℤ) (p : ObservanceSaid) → i < count → IsOnset zone i s p → s ≤ℤ t → IsNotLater s i latest.at latest.place
 
--- the same, or None if those observances have no onset up to t
+-- an onset is one of the zone, unless it is at the greatest instant
+abbrev pub IsOnsetOf : List ObservanceSaid → Latest → Type 0
+IsOnsetOf zone onset = onset.at <ℤ pos 9_223_372_036_854_775_807 → (p : ObservanceSaid) × IsOnset zone onset.place onset.at p
+
+-- the greatest onset up to t, or None if those observances have none
 abbrev pub IsLatestOf : List ObservanceSaid → ℤ → ℕ → Option Latest → Type 0
 IsLatestOf zone t count found =
     MatchOption found ((i : ℕ) (s : ℤ) (p : ObservanceSaid) → i < count → IsOnset zone i s p → t <ℤ s) (IsLatest zone t count)

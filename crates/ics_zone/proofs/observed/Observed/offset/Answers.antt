@@ -1,5 +1,5 @@
-use Rattle.std.proofs.Common.{rules, w32, w64}
-use Rattle.std.proofs.lemmas.Int.{to_z-of_z}
+use Rattle.std.proofs.Common.{rules, arith, w32, w64}
+use Rattle.std.proofs.lemmas.Int.{ints, to_z-of_z}
 use Rattle.ics_zone.proofs.JumpLemmas.{is_offset}
 use Rattle.ics_zone.proofs.observed.Observed.offset.Goals as goal
 
@@ -16,3 +16,6 @@ returns-in-Some-held_over-clause-means c =
 pub returns-in-None-clause-means : goal.returns-in-None-clause-means
 returns-in-None-clause-means c = rw (to_z-of_z w32 c.offset_of_latest.result (search rules))
     (rw (to_z-of_z w64 c.args.moment c.ranges.moment) at c.offset_of_latest.ensures.means)
+
+pub offset_of_latest-requires : goal.offset_of_latest-requires
+offset_of_latest-requires c = λ early. absurd (omega (arith, ints, early))

@@ -14,10 +14,10 @@ pub returns-in-Some : goal.returns-in-Some
 returns-in-Some c =
     let known = rw c.self.view_is at c.self.invariant in
     let found = rw c.deref.ensures.value at (simp (to_z-of_z, c.ranges.moment) at c.latest_of.ensures) in
-    let value = latest_is c.args.self.now known.some c.args.moment c.in-Some.latest
-    (rw c.in-Some.is at (found c.args.self.now.said.items known.asked)) in
+    let latest = rw c.in-Some.is at (found c.args.self.now.said.items known.asked) in
+    let value = latest_is c.args.self.now known.some c.args.moment c.in-Some.latest latest in
     rw (to_z-of_z w32 c.in-Some.latest.offset (search rules), value)
-    (record { means = is_offset c.args.self.now known.some c.args.moment; value = refl })
+    (record { means = is_offset c.args.self.now known.some c.args.moment; value = refl; hint = λ early. (latest.observance, latest.onset) })
 
 pub returns-in-None : goal.returns-in-None
 returns-in-None c =
@@ -27,4 +27,4 @@ returns-in-None c =
     let value = none_is c.args.self.now known.some c.args.moment c.first_offset.result
     (rw c.in-None.is at (found c.args.self.now.said.items known.asked)) (first c.args.self.now.said.items known.asked) in
     rw (to_z-of_z w32 c.first_offset.result (search rules), value)
-    (record { means = is_offset c.args.self.now known.some c.args.moment; value = refl })
+    (record { means = is_offset c.args.self.now known.some c.args.moment; value = refl; hint = c.requires })
