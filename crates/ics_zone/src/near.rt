@@ -16,7 +16,9 @@ const DAY: u64 = 86_400;
 /// How many days are looked at one by one.
 const DAYS: u64 = 8;
 
-/// A rule that lists so many months, or so many days of a month, has some on many days.
+/// A rule that lists so many weekdays, so many months, or so many days of a month, has some on many days.
+const WEEKDAYS: u64 = 2;
+
 const MONTHS: u64 = 2;
 
 const MONTH_DAYS: u64 = 4;
@@ -43,9 +45,10 @@ fn is_wide(size: u64, many: u64) -> bool {
 /// Whether a rule may keep locals on most days of a time. It is about speed alone.
 pub(crate) fn is_often(parts: &Parts) -> bool {
     let days = &parts.month_days;
-    let has_days = !(parts.weekdays.plain.is_empty() & days.is_empty());
     let by_days = match parts.frequency {
-        Frequency::Yearly | Frequency::Monthly => has_days,
+        Frequency::Yearly | Frequency::Monthly => {
+            size_of(parts.weekdays.plain) >= WEEKDAYS || !days.is_empty()
+        }
         _ => parts.interval <= INTERVAL,
     };
     by_days & parts.year_days.is_empty() & parts.weeks.is_empty() & parts.positions.is_empty()
