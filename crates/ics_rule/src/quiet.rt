@@ -3,16 +3,16 @@ ghost use Rattle.std.specs.Prelude.{◌<◌, ◌≤◌, ◌^◌, MatchOption};
 ghost use Rattle.ics_fields.specs.Locals.{calendar_end};
 ghost use Rattle.ics_rule.specs.Cursors.{CountedBy, HeldBy, NoneChosenAfter};
 ghost use Rattle.ics_rule.specs.Inner.Quiet.{NoneChosen};
-ghost use Rattle.ics_rule.specs.Inner.Searches.{IsNextOpen, IsSameButQuiet};
+ghost use Rattle.ics_rule.specs.Inner.Searches.{IsNextOpen, IsSameButQuiet, NoneLetIn};
 ghost use Rattle.ics_period.specs.PeriodNumbers.{rules_end};
 
 use crate::cursor::{Cursor, RULES_END};
 use crate::filled::next_filled;
-use crate::pass::{next_allowed, next_timed_step};
+use crate::pass::{next_allowed, next_open_second, next_timed_step};
 use crate::rounds::seconds_of;
 use crate::search::Search;
 use crate::walk::next_step;
-use ics_period::{first_local, period_of};
+use ics_period::{EffectiveRule, first_local, period_of};
 
 /// After so many steps that allow nothing a question ends. To pass over them costs a few times what it costs to ask anew on a later day.
 const MANY_STEPS: u32 = 64;
@@ -49,6 +49,19 @@ fn begin_of_step(search: &Search<'_>, n: u64, looks: u32) -> u64
     first_local(parts.frequency, parts.week_start, step)
 }
 
+/// The first local from one on whose time of day a rule allows, or the end of its day. From the end of the rules on it is that one.
+fn time_from(parts: &EffectiveRule, n: u64) -> u64
+    requires { n < calendar_end }
+    ensures none { NoneLetIn parts.now n result }
+    ensures inside { result < calendar_end }
+{
+    if n < RULES_END {
+        next_open_second(parts, n)
+    } else {
+        n
+    }
+}
+
 /// A local before which a rule chooses none from another on, by the parts of the date and the time alone: the first that they allow in a step,
 /// or the first of a step, if those before it allow none.
 fn next_by_date(search: &Search<'_>, from: u64) -> u64
@@ -64,7 +77,7 @@ fn next_by_date(search: &Search<'_>, from: u64) -> u64
         let open = next_allowed(search.parts, at, RULES_END);
         let begin = begin_of_step(search, open, steps + 1);
         if begin <= open {
-            return open;
+            return time_from(search.parts, open);
         }
         at = begin;
     }
