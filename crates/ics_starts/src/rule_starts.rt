@@ -752,15 +752,17 @@ impl<'a> RuleStarts<'a> {
         Some(Mark { from, cursor })
     }
 
-    /// Where the search begins. Nothing was read yet.
-    pub(crate) fn mark(&self) -> Mark
+    /// Where the search begins, if the rule has COUNT. Nothing was read yet.
+    pub(crate) fn mark(&self) -> Option<Mark>
         requires { IsBegun self.now.rule self.now.from self.now.cursor }
-        ensures { IsBegun self.now.rule result.from result.cursor }
+        ensures { MatchOption result (Unit {0}) (λ m. IsBegun self.now.rule m.from m.cursor) }
     {
-        Mark {
+        let event = self.event;
+        let _count = event.rule.as_ref()?.parts().count?;
+        Some(Mark {
             from: self.from,
             cursor: self.cursor,
-        }
+        })
     }
 
     /// Gives back what is known of the rule, also by this search.

@@ -642,14 +642,14 @@ impl<'a> Series<'a> {
     ghost use Rattle.ics_starts.specs.RuleHolding.{rule_looked, series_holds};
     ghost use Rattle.ics_starts.specs.RuleMarks.{IsMarkOf};
 
-    /// Where the search of its rule begins, of which nothing was read yet. Without a rule there is none.
+    /// Where the search of its rule begins, of which nothing was read yet. Without COUNT there is no mark.
     pub fn mark(&self) -> Option<Mark>
         requires { MatchOption self.now.rule_starts (Unit {0}) (λ s. IsBegun s.rule s.from s.cursor) }
         ensures { IsMarkOf self.now.event.now result }
     {
         match &self.rule_starts {
             None => None,
-            Some(starts) => Some(starts.mark()),
+            Some(starts) => starts.mark(),
         }
     }
 
