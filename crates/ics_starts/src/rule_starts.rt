@@ -718,13 +718,15 @@ impl<'a> RuleStarts<'a> {
     }
 
     /// The stretch that is known or, where that does not hold a local, given by its seconds, the one about it that the clock tells. The clock
-    /// is not asked if it always shows one offset.
+    /// is not asked where its offsets are no further apart than the local is from the beginning of its day: by each of them it is that day.
     fn stretch_about(&self, local: Moment) -> Stretch
         requires { IsMoment local }
         ensures { IsStretched (clock_of (clocks_in self.now.zones) self.now.event.now.start) result }
     {
         let event = self.event;
-        if self.bounds.least == self.bounds.most || is_in(self.stretch, local) {
+        let apart = self.bounds.most - self.bounds.least;
+        let time = local.saturating_add(EPOCH) % DAY;
+        if apart <= time || is_in(self.stretch, local) {
             return self.stretch;
         }
         stretch(self.zones, event.start, local)
