@@ -28,8 +28,14 @@ pub fn last_near(window: &Window, bounds: Bounds) -> i32
 }
 
 /// What a window holds of the instants at which an offset between two shows a day, whether or not it leaves out what began before. It ends where the
-/// display zone is known to show later days from then on.
-pub fn near_day(display: &Display, window: &Window, bounds: Bounds, day: i32) -> Window
+/// display zone is known to show later days from then on. `closely` says whether the zone is asked for that also where the two offsets differ little.
+pub fn near_day(
+    display: &Display,
+    window: &Window,
+    bounds: Bounds,
+    day: i32,
+    closely: bool,
+) -> Window
     requires bounded { HasOffsets (display_clock display.now) window.now bounds }
     requires first { first_near window.now bounds ≤ℤ day }
     requires last { day ≤ℤ last_near window.now bounds }
@@ -38,7 +44,7 @@ pub fn near_day(display: &Display, window: &Window, bounds: Bounds, day: i32) ->
     let midnight = i64::from(day) * DAY;
     let from = window.from.max(midnight - bounds.most);
     let to = window.to.min(midnight + DAY - bounds.least);
-    let end = later_from(display, bounds, day, to);
+    let end = later_from(display, bounds, day, to, closely);
     Window {
         from,
         to: end.max(from + 1),
@@ -47,9 +53,9 @@ pub fn near_day(display: &Display, window: &Window, bounds: Bounds, day: i32) ->
 }
 
 /// An instant from which on, and before another, the display zone shows later days than one: by a stretch of its clock about the midnight that ends
-/// the day and, if that does not reach the other instant, by the stretch about the local where it ends. Between two offsets that differ little it is the
-/// other instant itself, and no stretch is asked for.
-fn later_from(display: &Display, bounds: Bounds, day: i32, to: Moment) -> Moment
+/// the day and, if that does not reach the other instant, by the stretch about the local where it ends. Between two offsets that are the same, or differ
+/// little and are not looked at closely, it is the other instant itself, and no stretch is asked for.
+fn later_from(display: &Display, bounds: Bounds, day: i32, to: Moment, closely: bool) -> Moment
     requires offsets { AreOffsets bounds }
     requires day { IsDay day }
     requires early { occurrence_first ≤ℤ to }
@@ -57,7 +63,8 @@ fn later_from(display: &Display, bounds: Bounds, day: i32, to: Moment) -> Moment
     ensures to { result ≤ℤ to }
     ensures later { (t : ℤ) → result ≤ℤ t → t <ℤ to → day <ℤ date_at (display_clock display.now) t }
 {
-    if bounds.most - bounds.least <= APART {
+    let little = if closely { 0 } else { APART };
+    if bounds.most - bounds.least <= little {
         return to;
     }
     let local = (i64::from(day) + 1) * DAY;

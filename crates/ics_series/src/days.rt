@@ -229,7 +229,7 @@ impl<'a> Days<'a> {
         if last_near(window, bounds) < day {
             return Agenda::ended(alloc);
         }
-        let near = near_day(display, window, bounds, day);
+        let near = near_day(display, window, bounds, day, false);
         places.reach(spans, &near)?;
         Agenda::of(
             alloc,
@@ -372,7 +372,8 @@ impl<'a> Days<'a> {
             self.last,
             self.today.day,
         );
-        let near = near_day(self.display, &self.window, self.bounds, day);
+        let closely = may_begin_after(&self.places, &self.spans, &self.window, self.bounds, day);
+        let near = near_day(self.display, &self.window, self.bounds, day, closely);
         self.places.reach(&self.spans, &near)?;
         let key = key_near(self.display, &self.window, self.bounds, day, &self.floor);
         let agenda = Agenda::of(
@@ -421,6 +422,25 @@ fn next_day(
     let first = places.first(spans, window.to, from).max(window.from);
     let reached = Local::of_seconds(first + bounds.least).day;
     reached.max(next).min(last)
+}
+
+/// Whether what begins first, near a day or later, may begin only under later days: by the greater of two offsets it does, and they are not the same.
+fn may_begin_after(
+    places: &NearPlaces,
+    spans: &[Span],
+    window: &Window,
+    bounds: Bounds,
+    day: i32,
+) -> bool
+    requires offsets { AreOffsets bounds }
+    requires day { IsDay day }
+{
+    if bounds.least == bounds.most {
+        return false;
+    }
+    let begin = i64::from(day) * DAY - bounds.most;
+    let first = places.first(spans, window.to, begin);
+    begin + DAY <= first
 }
 
 /// The least instant with which what the window holds near a later day can begin.

@@ -47,7 +47,7 @@ use std::cmp::Ordering;
 /// Adds a feed for each version that counts and whose event recurs: its occurrences that meet the
 /// window and, with a key, come after it, but for those that overrides replace. Those of versions that are at none
 /// of the near places, or whose spans cannot meet the window, are left out. The searches of rules under COUNT go on from their marks, and
-/// all leave a mark where they began. No feed begins before the span of its version. Where nothing of a version
+/// leave a mark where they began. No feed begins before the span of its version. Where nothing of a version
 /// meets the window, its span is moved on.
 pub(crate) fn push_series<'a>(
     alloc: Global,

@@ -9,7 +9,7 @@ use Rattle.ics_series.specs.Ahead.{agenda_coming}
 use Rattle.ics_starts.specs.Clocks.{display_clock}
 use Rattle.ics_series.specs.DaySteps.{agenda_sources, scope_in}
 use Rattle.ics_days.specs.NearDays.{first_near}
-use Rattle.ics_days.proofs.NearDayLemmas.{bounds-offsets}
+use Rattle.ics_days.proofs.NearDayLemmas.{bounds-offsets, day-fits}
 use Rattle.ics_series.specs.Sources.{recurring}
 use Rattle.ics_series.proofs.AheadLemmas.{ahead-turned, from-later, looked-before, looked-next, searched-masters}
 use Rattle.ics_series.proofs.OverLemmas.{ended-first}
@@ -27,6 +27,17 @@ near_day-near-requires c =
       last = omega (arith, ints, next.type_inv, next.ensures.last, self.within);
     }
 
+pub may_begin_after-closely-requires : goal.may_begin_after-closely-requires
+may_begin_after-closely-requires c =
+    let self = c.args.self.now in
+    let next = c.next_day-day in
+    let are = bounds-offsets (display_clock self.display.now) self.window self.bounds self.bounded in
+    record {
+      offsets = are;
+      day = day-fits self.window self.bounds are (to_z w32 (of_z w32 c.next_day-day.result))
+          (omega (arith, ints, next.type_inv, next.ensures.later, self.not_before)) (omega (arith, ints, next.type_inv, next.ensures.last, self.within));
+    }
+
 pub next_day-day-requires-clause-offsets : goal.next_day-day-requires-clause-offsets
 next_day-day-requires-clause-offsets c =
     let self = c.args.self.now in
@@ -38,14 +49,14 @@ next_day-day-requires-clause-places c =
     rw (fits, c.deref.ensures.value) c.args.self.now.reached
 
 pub of-requires-clause-overrides : goal.of-requires-clause-overrides
-of-requires-clause-overrides c = rw (c.deref-4.ensures.value, c.deref-3.ensures.value) c.args.self.now.overriding
+of-requires-clause-overrides c = rw (c.deref-5.ensures.value, c.deref-4.ensures.value) c.args.self.now.overriding
 
 pub of-requires-clause-near : goal.of-requires-clause-near
 of-requires-clause-near c =
     let self = c.args.self.now in
     let near = c.near_day-near.result in
-    let reached = rw c.deref-2.ensures.value at c.in_ok-reach.ensures.reached in
-    rw (c.deref-5.ensures.value, c.deref-3.ensures.value)
+    let reached = rw c.deref-3.ensures.value at c.in_ok-reach.ensures.reached in
+    rw (c.deref-6.ensures.value, c.deref-4.ensures.value)
     (near-of c.reach.new.self self.spans.items near (c.reach.ensures.count ∙ self.counted) self.sized
     (reached (self.reached (display_clock self.display.now) (to_z w32 (of_z w32 c.next_day-day.result)) near
     (omega (arith, ints, c.next_day-day.type_inv, c.next_day-day.ensures.later)) c.near_day-near.ensures)))
@@ -53,7 +64,7 @@ of-requires-clause-near c =
 pub of-requires-clause-chosen : goal.of-requires-clause-chosen
 of-requires-clause-chosen c =
     let self = c.args.self.now in
-    rw c.deref-3.ensures.value (chosen-back (map said_by self.files.now) (display_clock self.display.now) self.versions.items self.chosen)
+    rw c.deref-4.ensures.value (chosen-back (map said_by self.files.now) (display_clock self.display.now) self.versions.items self.chosen)
 
 pub of-requires-clause-floor : goal.of-requires-clause-floor
 of-requires-clause-floor c = rw (← c.floor_of.ensures) at c.key_near-key.ensures.floor
@@ -61,7 +72,7 @@ of-requires-clause-floor c = rw (← c.floor_of.ensures) at c.key_near-key.ensur
 pub of-requires-clause-spans : goal.of-requires-clause-spans
 of-requires-clause-spans c =
     let self = c.args.self.now in
-    rw (c.deref-3.ensures.value, c.floor_of.ensures)
+    rw (c.deref-4.ensures.value, c.floor_of.ensures)
     (self.spanned (to_z w32 (of_z w32 c.next_day-day.result)) c.near_day-near.result
     (omega (arith, ints, c.next_day-day.type_inv, c.next_day-day.ensures.later)) c.near_day-near.ensures)
 
@@ -69,7 +80,7 @@ of-requires-clause-spans c =
 pub invariant_of-self : goal.invariant_of-self
 invariant_of-self c =
     let self = c.args.self.now in
-    let has = rw c.deref-2.ensures.value at c.reach.ensures.has in
+    let has = rw c.deref-3.ensures.value at c.reach.ensures.has in
     let same : to_z w32 (of_z w32 c.next_day-day.result) ≡ c.next_day-day.result = omega (arith, ints, c.next_day-day.type_inv) in
     let fits : to_z w32 (of_z w32 c.args.self.now.today.day) ≡ c.args.self.now.today.day = search rules in
     let none = rw (fits, ← same, c.deref.ensures.value) at c.next_day-day.ensures.none in
@@ -106,7 +117,7 @@ invariant_of-self-in-Break-branch-2 c =
     let self = c.args.self.now in
     let files = map said_by self.files.now in
     let display = display_clock self.display.now in
-    let moved = rw (c.deref-3.ensures.value, c.floor_of.ensures) at c.of.ensures.spans in
+    let moved = rw (c.deref-4.ensures.value, c.floor_of.ensures) at c.of.ensures.spans in
     let same : to_z w32 (of_z w32 c.next_day-day.result) ≡ c.next_day-day.result = omega (arith, ints, c.next_day-day.type_inv) in
     let fits : to_z w32 (of_z w32 c.args.self.now.today.day) ≡ c.args.self.now.today.day = search rules in
     let none = rw (fits, ← same, c.deref.ensures.value) at c.next_day-day.ensures.none in
@@ -114,14 +125,14 @@ invariant_of-self-in-Break-branch-2 c =
       chosen = self.chosen;
       overriding = self.overriding;
       counted = c.reach.ensures.count ∙ self.counted;
-      reached = places-moved c.reach.new.self self.spans.items c.of.new.spans.items (rw c.deref-5.ensures.value at c.of.ensures.others)
-          (places-same self.places c.reach.new.self self.spans.items c.near_day-near.ensures (rw c.deref-2.ensures.value at c.reach.ensures.has) none
+      reached = places-moved c.reach.new.self self.spans.items c.of.new.spans.items (rw c.deref-6.ensures.value at c.of.ensures.others)
+          (places-same self.places c.reach.new.self self.spans.items c.near_day-near.ensures (rw c.deref-3.ensures.value at c.reach.ensures.has) none
           self.reached);
       bounded = self.bounded;
       sized = moved.size ∙ self.sized;
       spanned = after-same files display self.bounds self.window self.versions.items self.sized self.spanned c.near_day-near.ensures moved
           (chosen-back files display self.versions.items self.chosen) none;
-      marked = rw c.deref-3.ensures.value at c.of.ensures.marks;
+      marked = rw c.deref-4.ensures.value at c.of.ensures.marks;
       known = c.of.ensures.kept;
       not_before = self.not_before;
       begun = self.begun;
@@ -144,7 +155,7 @@ invariant_of-self-3 c =
     let begun = self.begun in
     let files = map said_by self.files.now in
     let display = display_clock self.display.now in
-    let moved = rw (c.deref-3.ensures.value, c.floor_of.ensures) at c.of.ensures.spans in
+    let moved = rw (c.deref-4.ensures.value, c.floor_of.ensures) at c.of.ensures.spans in
     let masters = searched-masters scope (option_map (λ key. key_rank key.now) c.key_near-key.result) c.near_day-near.ensures
     (λ since f. from-later (first_near self.window self.bounds) self.after self.begun (omega (arith, ints, day, next.ensures.later)) since)
     (recurring (agenda_sources c.in_ok-agenda.agenda)) c.in_ok-agenda.ensures.sources.each in
@@ -152,14 +163,14 @@ invariant_of-self-3 c =
       chosen = self.chosen;
       overriding = self.overriding;
       counted = c.reach.ensures.count ∙ self.counted;
-      reached = places-moved c.reach.new.self self.spans.items c.of.new.spans.items (rw c.deref-5.ensures.value at c.of.ensures.others)
-          (places-next self.places c.reach.new.self self.spans.items c.near_day-near.ensures (rw c.deref-2.ensures.value at c.reach.ensures.has)
+      reached = places-moved c.reach.new.self self.spans.items c.of.new.spans.items (rw c.deref-6.ensures.value at c.of.ensures.others)
+          (places-next self.places c.reach.new.self self.spans.items c.near_day-near.ensures (rw c.deref-3.ensures.value at c.reach.ensures.has)
           (omega (arith, ints, day, next.ensures.later)) self.reached);
       bounded = self.bounded;
       sized = moved.size ∙ self.sized;
       spanned = after-next files display self.bounds self.window self.versions.items self.sized self.spanned c.near_day-near.ensures moved
           (omega (arith, ints, day, next.ensures.later));
-      marked = rw c.deref-3.ensures.value at c.of.ensures.marks;
+      marked = rw c.deref-4.ensures.value at c.of.ensures.marks;
       known = c.of.ensures.kept;
       not_before = omega (arith, ints, day, next.ensures.later, self.not_before);
       begun = omega (arith, ints, day, next.ensures.later, begun);
