@@ -1,16 +1,17 @@
 -- What is known of a time whose onsets are found.
 use Rattle.std.proofs.Common.{◌≡◌, ℕ, ◌<◌, ◌≤◌, inl, inr, sym, refl, subst, arith, List, [], ◌∷◌, ◌++◌, length, get_or, Contains, Option, Some, None, IfSome}
-use Rattle.std.proofs.Common.{Global, true, ℤ, ◌<ℤ◌, ◌≤ℤ◌}
+use Rattle.std.proofs.Common.{All, Global, true, ℤ, ◌<ℤ◌, ◌≤ℤ◌}
 use Rattle.std.specs.Prelude.{Vec}
 use Rattle.std.proofs.lemmas.Bool.{cases_lt}
 use Rattle.std.proofs.lemmas.Int.{ints}
 use Rattle.std.proofs.lemmas.List.{length_push, get_or_append_left, get_or_push}
 use Rattle.std.proofs.lemmas.List.Elements.{Contains-get_or, Contains-append_left, Contains-push, Contains-push_cases}
+use Rattle.ics_zone.specs.declared.gaps.Gap.{Gap}
 use Rattle.ics_zone.specs.declared.onsets.Onsets.{Onsets}
 use Rattle.ics_zone.specs.Observances.{ObservanceSaid}
 use Rattle.ics_zone.specs.Inner.Latest.{IsInOrder, IsPassed, IsLast, IsLastOf}
 use Rattle.ics_zone.specs.Inner.Marks.{IsAsked}
-use Rattle.ics_zone.specs.Inner.OnsetSets.{Has, AreFound, IsFound, IsSound, AreOnsetsOf}
+use Rattle.ics_zone.specs.Inner.OnsetSets.{Has, AreFound, HasGaps, IsFound, IsGap, IsSound, AreOnsetsOf}
 use Rattle.ics_zone.proofs.Cases.{less_or_not_z}
 use Rattle.ics_zone.proofs.LatestLemmas.{next_listed}
 
@@ -186,17 +187,28 @@ pub asked_of : (s : Onsets) (t : ℤ) → Has s t → IsAsked s true t
 asked_of s t (inl listed) = inl listed
 asked_of s t (inr kept) = inr (refl, kept)
 
--- other ones are found
-module _ (s : Onsets) (from to first last : ℤ) (list : Vec ℤ Global) (found : AreFound (Has s) from to list.items) where
-  pub now_found : IsSound s → IsSound (record s { found = list; known_from = from; known_to = to; sought_from = first; sought_to = last })
+pub gaps_of : (s : Onsets) → HasGaps s → All (IsGap (Has s)) s.gaps.items
+unfolding HasGaps
+gaps_of s gaps = gaps
+
+pub gaps_are : (s : Onsets) → All (IsGap (Has s)) s.gaps.items → HasGaps s
+unfolding HasGaps
+gaps_are s gaps = gaps
+
+-- other ones are found, and other gaps
+module _ (s : Onsets) (from to first last : ℤ) (list : Vec ℤ Global) (found : AreFound (Has s) from to list.items) (gaps : Vec Gap Global)
+    (are : All (IsGap (Has s)) gaps.items) where
+  pub now_found : IsSound s
+      → IsSound (record s { found = list; known_from = from; known_to = to; sought_from = first; sought_to = last; gaps = gaps })
   now_found sound = record {
     from_in = sound.from_in;
     some = sound.some;
     in_order = sound.in_order;
     first = sound.first;
-    found = found_is (record s { found = list; known_from = from; known_to = to; sought_from = first; sought_to = last }) found;
+    found = found_is (record s { found = list; known_from = from; known_to = to; sought_from = first; sought_to = last; gaps = gaps }) found;
+    gaps = gaps_are (record s { found = list; known_from = from; known_to = to; sought_from = first; sought_to = last; gaps = gaps }) are;
   }
 
   pub now_found_of : (p : ObservanceSaid) → AreOnsetsOf p s
-      → AreOnsetsOf p (record s { found = list; known_from = from; known_to = to; sought_from = first; sought_to = last })
+      → AreOnsetsOf p (record s { found = list; known_from = from; known_to = to; sought_from = first; sought_to = last; gaps = gaps })
   now_found_of p of = record { sound = now_found of.sound; from = of.from; to = of.to; known = of.known; complete = of.complete }

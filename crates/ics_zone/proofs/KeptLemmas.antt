@@ -25,7 +25,7 @@ module _ (s : Onsets) {r : Recurrence} (contains : s.rule ≡ Some r) where
 
   module _ {t : ℤ} {end : ℕ} (shown : IsShownTo s.offset_from s.until t end) where
     -- a kept local before the end is one of an onset, and an onset that is not after t is of such a local
-    kept_at : {n : ℕ} {u : ℤ} → is_kept r n ≡ true → n < end → u ≡ instant_by s.offset_from n → IsKeptAt s u
+    pub kept_at : {n : ℕ} {u : ℤ} → is_kept r n ≡ true → n < end → u ≡ instant_by s.offset_from n → IsKeptAt s u
     kept_at {n = n} {u = u} kept inside is = let by_until = shown.by_until n inside in grind (arith, ints, to_kept)
 
     before_end : (u : ℤ) (k : IsKeptBy s.offset_from s.until r u) → u ≤ℤ t → k.local < end

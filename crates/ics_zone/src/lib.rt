@@ -10,6 +10,7 @@ mod display_fault;
 mod display_text;
 mod file_stretch;
 mod gap_stretch;
+mod gaps;
 mod hours;
 mod jiff_zone;
 mod kept;

@@ -1,8 +1,9 @@
 //! The locals that a rule keeps near a place, if it keeps some on most days: the days are looked at one by one.
-ghost use Rattle.std.specs.Prelude.{◌*◌, ◌<◌, ◌≤◌, ◌/◌, IfSome, MatchOption};
+ghost use Rattle.std.specs.Prelude.{◌≡◌, true, ◌*◌, ◌<◌, ◌≤◌, ◌/◌, IfSome, MatchOption};
 ghost use Rattle.ics_fields.specs.Sets.{contains};
 ghost use Rattle.ics_period.specs.PeriodNumbers.{rules_end};
 ghost use Rattle.ics_period.specs.RecurrencePeriods.{has_minute, has_time};
+ghost use Rattle.ics_rule.specs.Kept.{is_kept};
 ghost use Rattle.ics_rule.specs.Next.{NoneKept, IsNextKept};
 ghost use Rattle.ics_zone.specs.Inner.Latest.{NoneFrom, IsGreatestBelow, IsLastBelow, IsLastKept};
 
@@ -14,14 +15,16 @@ use ics_rule::{DayTimes, Rule};
 const DAY: u64 = 86_400;
 
 /// How many days are looked at one by one.
-const DAYS: u64 = 8;
+pub(crate) const DAYS: u64 = 8;
 
-/// A rule that lists so many weekdays, so many months, or so many days of a month, has some on many days.
+/// A rule that lists so many weekdays, months, days of a month or weeks has some on many days.
 const WEEKDAYS: u64 = 2;
 
 const MONTHS: u64 = 2;
 
 const MONTH_DAYS: u64 = 4;
+
+const WEEKS: u64 = 27;
 
 /// A rule by days or weeks keeps none for long if its interval is greater.
 const INTERVAL: u32 = 3;
@@ -47,11 +50,15 @@ pub(crate) fn is_often(parts: &Parts) -> bool {
     let days = &parts.month_days;
     let by_days = match parts.frequency {
         Frequency::Yearly | Frequency::Monthly => {
-            size_of(parts.weekdays.plain) >= WEEKDAYS || !days.is_empty()
+            size_of(parts.weekdays.plain) >= WEEKDAYS || !(days.is_empty() & parts.weeks.is_empty())
         }
         _ => parts.interval <= INTERVAL,
     };
-    by_days & parts.year_days.is_empty() & parts.weeks.is_empty() & parts.positions.is_empty()
+    by_days & parts.year_days.is_empty() & parts.positions.is_empty()
+        && is_wide(
+            size_of(parts.weeks.front).saturating_add(size_of(parts.weeks.back)),
+            WEEKS,
+        )
         && is_wide(size_of(parts.months), MONTHS)
         && is_wide(
             size_of(days.front).saturating_add(size_of(days.back)),
@@ -181,5 +188,25 @@ pub(crate) fn last_near(rule: &Rule, by_days: bool, from: u64, bound: u64) -> Op
         last_between(rule, by_days, from, end)
     } else {
         None
+    }
+}
+
+/// The last kept local of the day of a kept one that is earlier than a bound, or an earlier one.
+pub(crate) fn last_of_day(rule: &Rule, kept: u64, bound: u64) -> u64
+    requires kept { is_kept rule.now kept ≡ true }
+    requires early { kept < bound }
+    requires bound { bound ≤ rules_end }
+    ensures kept { is_kept rule.now result ≡ true }
+    ensures later { kept ≤ result }
+    ensures early { result < bound }
+{
+    let day = kept / DAY;
+    let end = bound.min((day + 1) * DAY);
+    let Some(times) = rule.day(day as u32) else {
+        return kept;
+    };
+    match last_second(&times, (end - day * DAY) as u32) {
+        Some(second) => day * DAY + u64::from(second),
+        None => kept,
     }
 }

@@ -10,6 +10,7 @@ ghost use Rattle.ics_zone.specs.Inner.Latest.{IsInOrder, IsPassed, IsLast, IsLas
 ghost use Rattle.ics_zone.specs.Inner.OnsetSets.{IsShownTo, IsKeptAt, Has, AreFound, IsSound, AreOnsetsOf, IsListing, IsEnd, held_rule};
 
 use crate::clock::{RULES_END, instant, shown_by};
+use crate::gaps::Gap;
 use crate::kept::{last_kept, last_of_all, next_kept};
 use crate::near::{is_often, last_near, next_near, size_of};
 use ics_fields::{Frequency, Local, Moment, Parts};
@@ -18,6 +19,14 @@ use ics_values::Observance;
 use std::alloc::{AllocError, Global};
 
 const DAY: u64 = 86_400;
+
+/// A rule that lists more times of a day lists many.
+const OFTEN: u64 = 8;
+
+/// Under BYSETPOS a look for the next onset takes so many times as long, and so many if periods are years.
+const COSTS: usize = 3;
+
+const COSTS_OF_YEARS: usize = 32;
 
 /// The onsets of one observance. Those of its rule are not listed: they are searched for near the instant of interest.
 #[derive(Drop)]
@@ -36,10 +45,14 @@ pub(crate) struct Onsets {
     pub is_slow: bool,
     /// Whether days are looked at one by one first.
     pub by_days: bool,
+    /// How many times as long as in other rules a look for the next onset takes.
+    pub costs: usize,
     /// The onsets after one instant and before another, in order.
     pub found: Vec<Moment>,
     pub known_from: Moment,
     pub known_to: Moment,
+    /// Some gaps between the onsets that come after these.
+    pub gaps: Vec<Gap>,
     /// From which instant on and up to which other they were sought. They are fewer if they are many.
     pub sought_from: Moment,
     pub sought_to: Moment,
@@ -51,6 +64,14 @@ pub(crate) fn passed(listed: &[Moment], moment: Moment) -> usize
     ensures { IsPassed listed.now moment result }
 {
     listed.partition_point(|at| *at <= moment)
+}
+
+/// How many times of a day a rule lists.
+fn times_of(parts: &Parts) -> u64 {
+    size_of(parts.hours)
+        .max(1)
+        .saturating_mul(size_of(parts.minutes).max(1))
+        .saturating_mul(size_of(parts.seconds).max(1))
 }
 
 /// About how many seconds are between two onsets of a rule: a period, divided by the number of times of a day that the rule lists if it is daily.
@@ -72,11 +93,12 @@ fn spacing(observance: &Observance) -> u64 {
 
 /// The same of a daily rule.
 fn daily_spacing(parts: &Parts) -> u64 {
-    let times = size_of(parts.hours)
-        .max(1)
-        .saturating_mul(size_of(parts.minutes).max(1))
-        .saturating_mul(size_of(parts.seconds).max(1));
-    DAY.saturating_mul(u64::from(parts.interval)) / times.max(1)
+    DAY.saturating_mul(u64::from(parts.interval)) / times_of(parts).max(1)
+}
+
+/// Whether a rule that goes by longer periods than days lists many times of a day.
+fn has_many_times(parts: &Parts) -> bool {
+    !matches!(parts.frequency, Frequency::Daily) && times_of(parts) > OFTEN
 }
 
 /// Whether a rule goes by years and lists no days but weekdays, as those of most zones do. Such a rule is searched soon, whether or not it
@@ -99,11 +121,29 @@ fn is_each_day(parts: &Parts) -> bool {
         & parts.positions.is_empty()
 }
 
+/// Whether a rule has such parts that a search of it may take long.
+fn has_slow_parts(parts: &Parts) -> bool {
+    has_many_times(parts) || !(is_plain(parts) || is_each_day(parts))
+}
+
 /// Whether an observance has a rule of which a search may take long.
 fn has_slow_rule(observance: &Observance) -> bool {
     match &observance.rule {
-        Some(rule) => !is_plain(rule.parts()) && !is_each_day(rule.parts()),
+        Some(rule) => has_slow_parts(rule.parts()),
         None => false,
+    }
+}
+
+/// How many times as long as in other rules a look for the next onset takes. Under BYSETPOS the candidates of a period are counted.
+fn costs_of(observance: &Observance) -> usize {
+    let Some(rule) = &observance.rule else {
+        return 1;
+    };
+    let parts = rule.parts();
+    match (parts.positions.is_empty(), parts.frequency) {
+        (true, _) => 1,
+        (false, Frequency::Yearly) => COSTS_OF_YEARS,
+        (false, _) => COSTS,
     }
 }
 
@@ -201,9 +241,11 @@ impl Onsets {
             ago,
             is_slow: has_slow_rule(observance),
             by_days: has_frequent_rule(observance),
+            costs: costs_of(observance),
             found: Vec::new(alloc),
             known_from: 0,
             known_to: 0,
+            gaps: Vec::new(alloc),
             sought_from: Moment::MAX,
             sought_to: Moment::MIN,
         })
@@ -235,9 +277,22 @@ impl Onsets {
         ensures { IfSome result (IsLast (Has self.now) moment) }
     {
         if self.is_known(moment) {
-            self.last_found(moment)
-        } else {
-            None
+            return self.last_found(moment);
+        }
+        match self.known_gap(moment) {
+            Some(gap) => Some(gap.last),
+            None => None,
+        }
+    }
+
+    /// Whether two instants lie in one gap that is known.
+    fn is_in_gap(&self, after: Moment, moment: Moment) -> bool
+        requires { IsSound self.now }
+        ensures { result ≡ true → (t : ℤ) → Has self.now t → after <ℤ t → moment <ℤ t }
+    {
+        match self.known_gap(after) {
+            Some(gap) => moment < gap.next,
+            None => false,
         }
     }
 
@@ -247,7 +302,7 @@ impl Onsets {
         ensures { result ≡ true → (t : ℤ) → Has self.now t → after <ℤ t → moment <ℤ t }
     {
         if after < self.known_from || moment >= self.known_to {
-            return false;
+            return self.is_in_gap(after, moment);
         }
         match self.last_found(moment) {
             Some(last) => last <= after,
@@ -279,8 +334,8 @@ impl Onsets {
     }
 
     /// Finds the onsets from the last one by an instant on and before another, and those that were sought before: so many at most, and fewer where
-    /// an allocation fails.
-    pub fn find(&mut self, from: Moment, to: Moment, most: usize)
+    /// an allocation fails. Behind them it finds gaps, of so many days.
+    pub fn find(&mut self, from: Moment, to: Moment, most: usize, days: usize)
         requires sound { IsSound self.old }
         ensures sound { IsSound self.new }
         ensures same { (p : ObservanceSaid) → AreOnsetsOf p self.old → AreOnsetsOf p self.new }
@@ -290,11 +345,13 @@ impl Onsets {
         let begin = self.begin_by(first);
         let mut found = Vec::new(*self.listed.allocator());
         let end = self.list_between(begin, last, most, &mut found);
+        let gaps = self.list_gaps(end, last, days);
         self.sought_from = first;
         self.sought_to = last;
         self.found = found;
         self.known_from = begin;
         self.known_to = end;
+        self.gaps = gaps;
     }
 
     /// An instant before the last onset that is not after another, or before all if there is no such onset.
@@ -497,6 +554,9 @@ impl Onsets {
     {
         if self.is_known(after) {
             return limit.min(self.known_next(after));
+        }
+        if let Some(gap) = self.known_gap(after) {
+            return limit.min(gap.next);
         }
         let kept = self.next_by_rule(after, limit);
         self.next_listed(after, kept)

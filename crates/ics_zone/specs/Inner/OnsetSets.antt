@@ -1,13 +1,16 @@
 -- The onsets of one observance, as a zone holds them.
-use Rattle.std.specs.Prelude.{◌≡◌, ℕ, ◌<◌, ◌≤◌, ◌⊎◌, Bool, true, ◌&&◌, ◌||◌, ◌==◌, List, length, MatchOption, slice_index_or, int_le, ℤ, ◌<ℤ◌, ◌≤ℤ◌}
-use Rattle.std.specs.List.{Contains, list_any}
+use Rattle.std.specs.Prelude.{◌≡◌, ℕ, ◌+◌, ◌<◌, ◌≤◌, ◌⊎◌, Bool, true, ◌&&◌, ◌||◌, ◌==◌, List, length, Option, MatchOption, slice_index_or}
+use Rattle.std.specs.Prelude.{int_le, ℤ, ◌<ℤ◌, ◌≤ℤ◌}
+use Rattle.std.specs.List.{All, Contains, list_any}
 use Rattle.jiff_core.specs.Calendar.{IsWithin}
 use Rattle.ics_fields.specs.RuleParts.{RuleParts}
 use Rattle.ics_fields.specs.declared.local.Local.{Local}
 use Rattle.ics_period.specs.Recurrence.{Recurrence}
 use Rattle.ics_rule.specs.CountBounds.{without_count}
 use Rattle.ics_rule.specs.Kept.{is_kept, until_moment}
+use Rattle.ics_rule.specs.Next.{NoneKept, IsNextKept}
 use Rattle.ics_fields.specs.Locals.{number}
+use Rattle.ics_zone.specs.declared.gaps.Gap.{Gap}
 use Rattle.ics_zone.specs.declared.onsets.Onsets.{Onsets}
 use Rattle.ics_zone.specs.Observances.{ObservanceSaid, instant_by, is_until, is_onset, rule_from}
 use Rattle.ics_zone.specs.Inner.Latest.{IsInOrder}
@@ -67,6 +70,23 @@ pub record AreFound (set : ℤ → Type 0) (from to : ℤ) (list : List ℤ) : T
 unfoldable pub IsFound : Onsets → Type 0
 IsFound onsets = AreFound (Has onsets) onsets.known_from onsets.known_to onsets.found.items
 
+-- a gap begins at an instant of a set, and none of the set is later and before its end
+pub record IsGap (set : ℤ → Type 0) (gap : Gap) : Type 0 where
+  pub is : set gap.last
+  pub next : (t : ℤ) → set t → gap.last <ℤ t → gap.next ≤ℤ t
+
+-- the gaps held are gaps between the onsets
+unfoldable pub HasGaps : Onsets → Type 0
+HasGaps onsets = All (IsGap (Has onsets)) onsets.gaps.items
+
+-- of the locals shown up to t, the rule keeps local `last`, and after it `next`, or none if there is none
+pub record IsGapKept (onsets : Onsets) (r : Recurrence) (t : ℤ) (last : ℕ) (next : Option ℕ) : Type 0 where
+  pub end : ℕ
+  pub shown : IsShownTo onsets.offset_from onsets.until t end
+  pub kept : is_kept r last ≡ true
+  pub early : last < end
+  pub follows : MatchOption next (NoneKept r (last + 1) end) (IsNextKept r (last + 1) end)
+
 -- the onsets are listed in order, none is earlier than the first listed one, and those of a time are found
 pub record IsSound (onsets : Onsets) : Type 0 where
   pub from_in : IsWithin 86_399 onsets.offset_from
@@ -74,6 +94,7 @@ pub record IsSound (onsets : Onsets) : Type 0 where
   pub in_order : IsInOrder onsets.listed.items
   pub first : (t d : ℤ) → IsKeptAt onsets t → slice_index_or onsets.listed.items 0 d ≤ℤ t
   pub found : IsFound onsets
+  pub gaps : HasGaps onsets
 
 -- the onsets are those of an observance
 pub record AreOnsetsOf (p : ObservanceSaid) (onsets : Onsets) : Type 0 where

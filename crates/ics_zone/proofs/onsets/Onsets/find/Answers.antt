@@ -13,7 +13,7 @@ returns-clause-sound c =
       to_z-of_z w64 c.max-last.result (search rules),
     )
     (now_found c.args.self.now c.begin_by-begin.result c.list_between-end.result c.min-first.result c.max-last.result c.list_between-end.new.found
-    (simp (to_z-of_z, begin) at c.list_between-end.ensures) c.requires.sound)
+    (simp (to_z-of_z, begin) at c.list_between-end.ensures) c.list_gaps-gaps.result c.list_gaps-gaps.ensures c.requires.sound)
 
 pub returns-clause-same : goal.returns-clause-same
 returns-clause-same c =
@@ -25,4 +25,4 @@ returns-clause-same c =
       to_z-of_z w64 c.max-last.result (search rules),
     )
     (now_found_of c.args.self.now c.begin_by-begin.result c.list_between-end.result c.min-first.result c.max-last.result c.list_between-end.new.found
-    (simp (to_z-of_z, begin) at c.list_between-end.ensures))
+    (simp (to_z-of_z, begin) at c.list_between-end.ensures) c.list_gaps-gaps.result c.list_gaps-gaps.ensures)

@@ -25,3 +25,16 @@ returns c =
       next = earlier_of c.args.self.now c.args.after bound (simp (to_z-of_z, c.ranges.after) at c.next_listed.ensures.next)
           (simp (to_z-of_z, c.ranges.after) at c.next_by_rule-kept.ensures.next);
     })
+
+-- a gap is known
+pub returns-in-Some : goal.returns-in-Some
+returns-in-Some c =
+    let fits : SFits w64 c.in-Some.gap.next = search rules in
+    let value = simp (to_z-of_z, c.ranges.limit, fits) at c.min-in-Some.ensures.value in
+    let last = simp (to_z-of_z, c.ranges.after) at c.in-Some.ensures.last in
+    let early = simp (to_z-of_z, c.ranges.after) at c.in-Some.ensures.next in
+    rw (to_z-of_z w64 c.min-in-Some.result (search rules)) (record {
+      after = omega (arith, ints, clamps, value, early, c.requires.limit);
+      bound = omega (arith, ints, clamps, value);
+      next = λ t h late. let low = c.in-Some.ensures.gap.next t h (omega (arith, ints, last, late)) in omega (arith, ints, clamps, value, low);
+    })
