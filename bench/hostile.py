@@ -213,6 +213,11 @@ def apart(count, rule):
             for number in range(count)]
 
 
+def together(first, second, rule):
+    """Two observances since the year 0001 with an offset each that begin at the same instants by a rule."""
+    return [part('STANDARD', '00010101T000000', '-0100', first, 'RRULE:' + rule), part('DAYLIGHT', '00010101T020000', '+0100', second, 'RRULE:' + rule)]
+
+
 def far_apart(zones, count):
     """So many daily events a hundred years apart in each of so many time zones of two hourly observances that fall together."""
     lines = []
@@ -458,7 +463,16 @@ ROWS = [
     ('each tenth day in a time zone of 7 daily observances, a window of ages',
      lambda: in_alike(1, ['odd'], apart(7, 'FREQ=DAILY'), 'RRULE:FREQ=DAILY;INTERVAL=10'), AGES[:2], 8, 32),
     ('10 events of 36,525 days in a time zone of 20 daily observances', lambda: in_alike(10, ['odd'], apart(20, 'FREQ=DAILY'), LONG, 'RRULE:FREQ=DAILY'),
-     DAY, 16, 32),
+     DAY, 20, 32),
+    ('5 events of 36,525 days in a time zone of two observances that begin together on each day of ten weeks of a year',
+     lambda: in_alike(5, ['odd'], together('-1200', '-2359', 'FREQ=YEARLY;BYWEEKNO=1,3,18,19,22,36,48,49,50,53;BYDAY=' + WEEK), LONG, 'RRULE:FREQ=DAILY'),
+     DAY, 4, 32),
+    ('4 yearly events in a time zone that begins each second of twenty minutes of some Thursdays, a window of ages',
+     lambda: in_alike(4, ['odd'], apart(1, 'FREQ=YEARLY;BYMONTHDAY=-31,-12,6,8,19;BYWEEKNO=-6,9,13,16,24,25,37,42,47,52;BYDAY=TH;' + by(
+         '0', listed(range(20)), EACH)), LONG, 'RRULE:FREQ=YEARLY'), AGES[:2], 4, 32),
+    ('an event each nine years in a time zone of two observances that begin together each hour of all weeks of a year',
+     lambda: in_alike(1, ['odd'], together('+0100', '-0100', 'FREQ=YEARLY;BYWEEKNO=%s;BYDAY=%s;BYHOUR=%s;BYMINUTE=0,30' % (
+         listed(range(1, 54)), WEEK, HOURS)), 'RRULE:FREQ=YEARLY;INTERVAL=9'), ['2024-01-01', '36525d'], 8, 32),
     ('6 yearly events in a time zone that begins on some Wednesdays that end a month, a window of ages',
      lambda: in_alike(6, ['odd'], apart(1, 'FREQ=DAILY;INTERVAL=29;BYMONTHDAY=31;BYDAY=WE'), LONG, 'RRULE:FREQ=YEARLY'), AGES[:2], 4, 32),
     ('400,000 faulty events, --keep-going', lambda: faulty(400_000), [*DAY, '--keep-going'], 12, 256),
