@@ -1,5 +1,5 @@
-use Rattle.std.proofs.Common.{rules, arith, SFits, w64}
-use Rattle.std.proofs.lemmas.Int.{ints, to_z-of_z}
+use Rattle.std.proofs.Common.{rules, SFits, w64}
+use Rattle.std.proofs.lemmas.Int.{to_z-of_z}
 use Rattle.ics_zone.specs.Inner.OnsetSets.{Has}
 use Rattle.ics_zone.proofs.FoundLemmas.{known_last}
 use Rattle.ics_zone.proofs.OnsetGapLemmas.{last_of_gap}

@@ -1,8 +1,8 @@
-use Rattle.std.proofs.Common.{rules, arith, w64, SFits, to_z, of_z, subst, sym, [], ◌∷◌, ◌++◌, ◌≡◌}
+use Rattle.std.proofs.Common.{rules, arith, w64, SFits, to_z, of_z, [], ◌∷◌, ◌++◌, ◌≡◌}
 use Rattle.std.proofs.lemmas.Int.{ints, to_z-of_z}
 use Rattle.ics_zone.specs.Inner.OnsetSets.{Has}
 use Rattle.ics_zone.proofs.JumpLemmas.{natural_less}
-use Rattle.ics_zone.proofs.FoundLemmas.{AreListed, asked_of, none_listed, listed_more, listed_on, found_to_next, found_to_end}
+use Rattle.ics_zone.proofs.FoundLemmas.{asked_of, none_listed, listed_more, listed_on, found_to_next, found_to_end}
 use Rattle.ics_zone.proofs.onsets.Onsets.list_between.Goals.{else-at-to-via-then-at-to+else-not-add_found, else-at-to-via-else-at-to}
 use Rattle.ics_zone.proofs.onsets.Onsets.list_between.Goals as goal
 
