@@ -410,7 +410,7 @@ impl Observed {
         ensures means { IsMomentOf self.now.said.items (seconds_at local.day local.second) result }
         ensures value { result ≡ zone_moment self.now.said.items (seconds_at local.day local.second) }
     {
-        self.instant_of(seconds_of(local))
+        self.instant_of(local.seconds())
     }
 
     /// The same of a local that is given by its seconds.
@@ -1483,13 +1483,6 @@ fn offsets_of(alloc: Global, observances: &[Observance]) -> Result<Vec<i32>, All
     offsets.dedup();
     offsets.reverse();
     Ok(offsets)
-}
-
-/// The seconds from 1970-01-01T00:00:00 to a local, each day having 86,400.
-pub(crate) fn seconds_of(local: Local) -> i64
-    ensures { result ≡ seconds_at local.day local.second }
-{
-    i64::from(local.day) * DAY + i64::from(local.second)
 }
 
 /// Whether one of the observances repeats more often than daily.

@@ -1,13 +1,10 @@
 //! The clock at a place.
-ghost use Rattle.std.specs.Prelude.{◌≡◌, ◌+ℤ◌, ◌-ℤ◌, ℤ, pos, neg_ℤ};
-ghost use Rattle.jiff_core.specs.Calendar.{IsBetween};
+ghost use Rattle.std.specs.Prelude.{◌≡◌, ◌+ℤ◌, ◌-ℤ◌, ℤ, pos};
 ghost use Rattle.ics_zone.specs.Seconds.{IsMoment, IsDay};
 ghost use Rattle.ics_fields.specs.Locals.{seconds_at};
 
 use crate::{Bounds, Spans, Stretch};
 use ics_fields::{Local, Moment};
-
-const DAY: i64 = 86_400;
 
 /// The clock at a place: the offset from UTC at each instant, and the instant that each local means
 /// (RFC 5545, sections 3.3.5 and 3.6.5). Contracts see a local as one number: the seconds since
@@ -47,7 +44,7 @@ pub trait Place {
         requires { IsMoment moment }
         ensures { seconds_at result.day result.second ≡ moment +ℤ offset_at self.now moment }
     {
-        local_of(moment + i64::from(self.offset(moment)))
+        Local::of_seconds(moment + i64::from(self.offset(moment)))
     }
 
     /// Two offsets between which all offsets of the place lie.
@@ -70,15 +67,4 @@ pub trait Place {
 
     /// A local means an instant less than two days from the same seconds in UTC.
     ghost moment_near: { (place : Self) (local : ℤ) → IsNear (moment_at place local -ℤ local) };
-}
-
-/// The local with these seconds.
-fn local_of(seconds: i64) -> Local
-    requires { IsBetween (neg_ℤ (pos 100_000_000_000_000)) (pos 100_000_000_000_000) seconds }
-    ensures { seconds_at result.day result.second ≡ seconds }
-{
-    Local {
-        day: seconds.div_euclid(DAY) as i32,
-        second: seconds.rem_euclid(DAY) as u32,
-    }
 }

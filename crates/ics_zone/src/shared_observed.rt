@@ -5,7 +5,7 @@ ghost use Rattle.ics_zone.specs.Moments.{IsMomentOf, zone_moment};
 ghost use Rattle.ics_zone.specs.Seconds.{IsDay};
 
 use crate::answers::{Answer, answer_of};
-use crate::observed::{Observed, seconds_of};
+use crate::observed::Observed;
 use ics_fields::{Local, Moment};
 use std::alloc::{AllocError, Global};
 use std::marker::Model;
@@ -98,7 +98,7 @@ impl SharedObserved {
     pub fn note(&mut self, local: Local)
         ensures { self.new ≡ self.old }
     {
-        let seconds = seconds_of(local);
+        let seconds = local.seconds();
         if self.get().has_many() && self.get().is_slow_at(seconds) {
             self.noted.push(seconds).ok();
         }
@@ -159,7 +159,7 @@ impl SharedObserved {
         ensures means { IsMomentOf self.now.said.items (seconds_at local.day local.second) result }
         ensures value { result ≡ zone_moment self.now.said.items (seconds_at local.day local.second) }
     {
-        match answer_of(&self.answers, seconds_of(local)) {
+        match answer_of(&self.answers, local.seconds()) {
             Some(moment) => moment,
             None => self.get().moment(local),
         }

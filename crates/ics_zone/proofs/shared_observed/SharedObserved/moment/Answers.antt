@@ -8,11 +8,11 @@ use Rattle.ics_zone.proofs.shared_observed.SharedObserved.moment.Goals as goal
 pub returns-in-Some : goal.returns-in-Some
 returns-in-Some c =
     let known = rw c.self.view_is at c.self.invariant in
-    let fits : SFits w64 c.seconds_of.result = search rules in
-    let is : IsMomentOf c.args.self.now.said.items c.seconds_of.result c.in-Some.moment =
+    let fits : SFits w64 c.seconds.result = search rules in
+    let is : IsMomentOf c.args.self.now.said.items c.seconds.result c.in-Some.moment =
     simp to_z-of_z at (c.in-Some.ensures c.args.self.now.said.items (rw c.deref.ensures.value known)) in
-    rw (to_z-of_z w64 c.in-Some.moment (search rules), sym c.seconds_of.ensures)
-    (record { means = is; value = is_found c.args.self.now c.seconds_of.result _ is })
+    rw (to_z-of_z w64 c.in-Some.moment (search rules), sym c.seconds.ensures)
+    (record { means = is; value = is_found c.args.self.now c.seconds.result _ is })
 
 pub returns-in-None : goal.returns-in-None
 returns-in-None c = rw (to_z-of_z w64 c.moment.result (search rules)) (rw c.get.ensures at c.moment.ensures)
