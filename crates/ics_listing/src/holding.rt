@@ -15,9 +15,11 @@ pub trait Holding: Coming {
     /// How many periods of rules it has looked at.
     ghost looked: { Self → ℕ };
 
+    /// The number of built occurrences that it holds.
     fn held(&self) -> usize
         ensures { result ≡ length (Self.holds self.now) };
 
+    /// The number of periods of rules that it has looked at.
     fn steps(&self) -> u64
         ensures { result ≡ Self.looked self.now };
 }

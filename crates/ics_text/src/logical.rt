@@ -11,6 +11,7 @@ pub enum LineBytes<'a> {
 }
 
 impl LineBytes<'_> {
+    /// The bytes.
     pub fn as_slice(&self) -> &[u8]
         ensures { result.now ≡ line_bytes self.now }
     {
@@ -39,6 +40,7 @@ impl<'a> Model for Logical<'a> {
 }
 
 impl<'a> Logical<'a> {
+    /// The bytes of the line, unfolded.
     pub fn bytes(&self) -> &[u8]
         ensures { result.now ≡ self.now.bytes }
     {

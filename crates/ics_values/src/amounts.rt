@@ -62,6 +62,7 @@ fn read_amount(text: &[u8], unit: u8) -> Option<Amount<'_>>
     })
 }
 
+/// The seconds of a text that says nothing else.
 fn second_part(text: &[u8]) -> Option<Amounts>
     ensures { Reads second_shapes text.now result }
 {
@@ -75,6 +76,7 @@ fn second_part(text: &[u8]) -> Option<Amounts>
     })
 }
 
+/// The minutes, and the seconds that may follow.
 fn minute_part(text: &[u8]) -> Option<Amounts>
     ensures { Reads minute_shapes text.now result }
 {
@@ -88,6 +90,7 @@ fn minute_part(text: &[u8]) -> Option<Amounts>
     Some(amounts)
 }
 
+/// The hours, and the minutes that may follow.
 fn hour_part(text: &[u8]) -> Option<Amounts>
     ensures { Reads hour_shapes text.now result }
 {
@@ -101,6 +104,7 @@ fn hour_part(text: &[u8]) -> Option<Amounts>
     Some(amounts)
 }
 
+/// The hours, minutes or seconds behind a `T`.
 fn time_part(text: &[u8]) -> Option<Amounts>
     ensures { Reads time_shapes text.now result }
 {
@@ -114,6 +118,7 @@ fn time_part(text: &[u8]) -> Option<Amounts>
     second_part(time)
 }
 
+/// The days, and the time that may follow.
 fn day_part(text: &[u8]) -> Option<Amounts>
     ensures { Reads day_shapes text.now result }
 {
@@ -127,6 +132,7 @@ fn day_part(text: &[u8]) -> Option<Amounts>
     Some(amounts)
 }
 
+/// The weeks of a text that says nothing else.
 fn week_part(text: &[u8]) -> Option<Amounts>
     ensures { Reads week_shapes text.now result }
 {

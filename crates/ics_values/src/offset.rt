@@ -21,6 +21,7 @@ impl BadOffset {
     }
 }
 
+/// Whether the text is a sign and four or six digits.
 fn is_offset_form(text: &[u8]) -> bool
     ensures { result ≡ is_offset_form text.now }
 {

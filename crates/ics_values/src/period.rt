@@ -47,6 +47,7 @@ impl PeriodFault {
     }
 }
 
+/// The DATE-TIME that a half says.
 fn read_half(text: &[u8], zoned: bool) -> Result<Stamp, PeriodFault>
     ensures value { result ≡ half_of zoned text.now }
     ensures range { IfOk result IsDateTime }
@@ -71,6 +72,7 @@ fn lasts(text: &[u8]) -> bool
     }
 }
 
+/// The end of a period: how long it lasts, or a DATE-TIME.
 fn read_end(text: &[u8], zoned: bool) -> Result<PeriodEnd, PeriodFault>
     ensures value { result ≡ end_of zoned text.now }
     ensures range { IfOk result IsPeriodEnd }

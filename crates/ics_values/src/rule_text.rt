@@ -114,6 +114,7 @@ fn take_items(parts: &mut Parts, list: ListName, value: &[u8]) -> Option<()>
 }
 
 impl Draft {
+    /// Reads the value of a part. None if it is invalid.
     fn take_value(&mut self, name: PartName, value: &[u8]) -> Option<()>
         ensures { Takes (value_taken name value.now self.old) result self.new }
     {
@@ -148,6 +149,7 @@ impl Draft {
     }
 }
 
+/// What the parts of the text say, of which one `;` may be the end. None if a part is invalid or stands twice.
 fn draft_of(text: &[u8]) -> Option<Draft>
     ensures { result ≡ walk part_taken no_parts (pieces 59 (without_last text.now)) }
 {

@@ -56,6 +56,7 @@ pub fn read_weekday(text: &[u8]) -> Option<Weekday>
     by_word(text, &WEEKDAYS)
 }
 
+/// The UNTIL that a stamp says.
 fn until_said(stamp: Stamp) -> Until
     ensures { result ≡ until_said stamp }
 {

@@ -3,6 +3,7 @@ ghost use Rattle.std.specs.Prelude.{◌≡◌, ◌<◌, ◌^◌};
 ghost use Rattle.jiff_core.specs.Calendar.{IsWithin};
 ghost use Rattle.ics_values.specs.Texts.{begins, is_sign, is_minus, unsigned, with_sign};
 
+/// Whether a byte is `+` or `-`.
 pub fn is_sign(b: u8) -> bool
     ensures { result ≡ is_sign b }
 {

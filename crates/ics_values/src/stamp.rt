@@ -44,6 +44,7 @@ impl StampFault {
     }
 }
 
+/// Whether the text has the form of a DATE.
 fn is_date_form(text: &[u8]) -> bool
     ensures { result ≡ is_date_form text.now }
 {
@@ -60,6 +61,7 @@ pub fn is_local_form(text: &[u8]) -> bool
         && are_digits(&text[9..])
 }
 
+/// Whether the text has the form of a time in UTC.
 fn is_utc_form(text: &[u8]) -> bool
     ensures { result ≡ is_utc_form text.now }
 {
@@ -136,6 +138,7 @@ pub fn any_stamp(text: &[u8], zoned: bool) -> Option<Stamp>
     })
 }
 
+/// Whether a stamp may be of that year: 0001 to 9899.
 fn is_stamp_year(year: u32) -> bool
     ensures { result ≡ is_stamp_year year }
 {

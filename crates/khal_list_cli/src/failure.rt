@@ -107,7 +107,7 @@ impl Failure {
         }
     }
 
-    // Names it on standard error.
+    /// Names it on standard error.
     fn say(&self, rt: &(impl Print + Eprint)) -> u8
         ensures { result ≡ failure_code self.now }
     {

@@ -131,6 +131,7 @@ fn list_by_words(rt: HostRuntime) -> Result<Status, Failure> {
     list(rt, &request)
 }
 
+/// Runs the program, and ends with its status.
 fn main(rt: HostRuntime) -> ExitCode {
     match list_by_words(rt) {
         Ok(status) => ExitCode::from(status.code()),

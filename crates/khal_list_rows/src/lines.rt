@@ -20,6 +20,7 @@ pub fn lines(rt: HostRuntime, file: &[u8]) -> io::Result<()> {
     Ok(())
 }
 
+/// Prints a line.
 fn print_line(rt: HostRuntime, line: &Logical<'_>) -> io::Result<()> {
     let folds = if line.borrowed().is_some() {
         ""

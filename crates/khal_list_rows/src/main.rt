@@ -45,6 +45,7 @@ mod zones;
 use row::Row;
 use std::io;
 
+/// Takes the lines of standard input, one by one.
 fn main(rt: HostRuntime) -> io::Result<()> {
     let mut row = Row::new(rt.alloc());
     for line in rt.lines(rt.alloc()) {

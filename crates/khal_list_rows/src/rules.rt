@@ -94,6 +94,7 @@ pub fn rule_value(alloc: Global, line: &str) -> Result<String, AllocError> {
     }
 }
 
+/// Whether a rule gives a local, as `yes` or `no`.
 fn admits(rule: &Rule, local: &str) -> &'static str {
     match day_local(local) {
         Some(local) => yes_no(rule.admits(local)),

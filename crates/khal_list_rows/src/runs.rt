@@ -114,6 +114,7 @@ pub fn print_fault(rt: HostRuntime, fault: RequestFault) -> io::Result<()> {
     println!(rt; "[{}]", fault.name())
 }
 
+/// Prints what a run wrote, with its status in brackets.
 fn print_written(rt: HostRuntime, written: &Written) -> io::Result<()> {
     rt.print(written.out.as_str())?;
     println!(rt; "[{}]", written.status.code())?;
@@ -174,6 +175,7 @@ fn print_cuts(rt: HostRuntime, source: &mut MemorySource, request: &Request) -> 
     Ok(())
 }
 
+/// How the files of a run were refused, or that they were not.
 fn fault_of(written: &Written) -> &str {
     if written.err.is_empty() {
         return "accepted";

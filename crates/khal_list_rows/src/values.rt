@@ -23,6 +23,7 @@ pub fn value(alloc: Global, kind: &str, text: &str) -> Result<String, AllocError
     }
 }
 
+/// The stamp of a text, or its fault.
 fn stamp(alloc: Global, text: &str, zoned: bool) -> Result<String, AllocError> {
     match read_stamp(text.as_bytes(), zoned) {
         Ok(stamp) => stamp_text(alloc, stamp),
@@ -30,6 +31,7 @@ fn stamp(alloc: Global, text: &str, zoned: bool) -> Result<String, AllocError> {
     }
 }
 
+/// The duration of a text, or its fault.
 fn duration(alloc: Global, text: &str) -> Result<String, AllocError> {
     match read_duration(text.as_bytes()) {
         Ok(duration) => duration_text(alloc, duration),
@@ -37,12 +39,14 @@ fn duration(alloc: Global, text: &str) -> Result<String, AllocError> {
     }
 }
 
+/// A duration as its days and seconds.
 fn duration_text(alloc: Global, duration: Duration) -> Result<String, AllocError> {
     let sign = if duration.negative { "less " } else { "" };
     let (days, seconds) = (duration.days, duration.seconds);
     format!(in alloc; "{sign}{days} days and {seconds} seconds")
 }
 
+/// The seconds of an offset from UTC, or the fault of the text.
 fn offset(alloc: Global, text: &str) -> Result<String, AllocError> {
     match read_offset(text.as_bytes()) {
         Ok(seconds) => format!(in alloc; "{seconds}"),
@@ -50,6 +54,7 @@ fn offset(alloc: Global, text: &str) -> Result<String, AllocError> {
     }
 }
 
+/// The period of a text, or its fault.
 fn period(alloc: Global, text: &str) -> Result<String, AllocError> {
     match read_period(text.as_bytes(), false) {
         Ok(period) => period_text(alloc, period),
@@ -57,6 +62,7 @@ fn period(alloc: Global, text: &str) -> Result<String, AllocError> {
     }
 }
 
+/// A period as its start, and its end or how long it lasts.
 fn period_text(alloc: Global, period: Period) -> Result<String, AllocError> {
     let start = stamp_text(alloc, period.start)?;
     match period.end {
@@ -67,6 +73,7 @@ fn period_text(alloc: Global, period: Period) -> Result<String, AllocError> {
     }
 }
 
+/// The number of a text, or its fault.
 fn integer(alloc: Global, text: &str) -> Result<String, AllocError> {
     match read_integer(text.as_bytes()) {
         Ok(number) => format!(in alloc; "{number}"),

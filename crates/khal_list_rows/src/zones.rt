@@ -28,6 +28,7 @@ pub fn in_file(alloc: Global, file: &[u8], call: &str, value: &str) -> Result<St
     }
 }
 
+/// The first zone of a file, if it has one.
 fn first_zone(alloc: Global, file: &[u8]) -> Option<Zone> {
     if file.len() > MOST_BYTES {
         return None;

@@ -72,6 +72,7 @@ fn read_into<R: Files>(
     }
 }
 
+/// The fault that an error of the system is.
 fn fault_of(error: io::Error) -> SourceFault {
     if error.kind() == ErrorKind::OutOfMemory {
         return SourceFault::Memory;

@@ -25,6 +25,7 @@ pub struct FolderSource<R> {
     failures: u64,
 }
 
+/// Whether a file with that name is a calendar file.
 fn is_calendar(name: &str) -> bool {
     name.ends_with(".ics") && !name.starts_with('.')
 }

@@ -35,7 +35,7 @@ impl<W: Write + Drop> Stream<W> {
         self.writer
     }
 
-    // Counts a failure of the writer.
+    /// Counts a failure of the writer.
     fn fail(&mut self)
         ensures taken { ⟦<Stream<W> as Sink>⟧.taken self.new ≡ ⟦<Stream<W> as Sink>⟧.taken self.old }
         ensures risen { ⟦<Stream<W> as Sink>⟧.failed self.new ≡ risen (⟦<Stream<W> as Sink>⟧.failed self.old) }
