@@ -48,6 +48,7 @@ pub(crate) fn seconds_lasting(zones: FileZones<'_>, event: &Event) -> i64
     seconds_by(zones, event.start, event.length)
 }
 
+/// How many seconds a length is from a first time on, if each day has 86,400.
 fn seconds_by(zones: FileZones<'_>, first: Time, length: Length) -> i64
     requires first { IsTimeOf zones.zones.now first }
     requires length { IsLength first.stamp length }

@@ -19,6 +19,7 @@ pub(crate) fn read_offset(text: &[u8]) -> Option<i32>
     Some(with_sign(*sign == b'-', seconds))
 }
 
+/// The seconds, negated if `negative`.
 fn with_sign(negative: bool, seconds: u32) -> i32
     requires { seconds < 86_400 }
     ensures { result ≡ signed negative seconds }
