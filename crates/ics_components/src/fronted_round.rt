@@ -3,44 +3,19 @@ ghost use Rattle.std.specs.Prelude.{◌≡◌, [], IfOk, IfSome, None, Some};
 ghost use Rattle.std.specs.Option.{option_and_then, option_or};
 ghost use Rattle.ics_text.specs.ContentLines.{content_of};
 ghost use Rattle.ics_components.specs.Fronts.{IsFrontOf};
-ghost use Rattle.ics_components.specs.Inner.FrontedRound.{GoesFronted, StepsFronted, begun_still, closed_as, closed_fronted, front_closed};
+ghost use Rattle.ics_components.specs.Inner.FrontedRound.{GoesFronted, StepsFronted, begun_still, closed_fronted, front_closed};
 ghost use Rattle.ics_components.specs.Inner.FrontedRound.{front_past, fronted_over, parted_fronted};
 ghost use Rattle.ics_components.specs.Inner.PartsPass.{Ends, by_part, here, if_sure, round_begun};
 ghost use Rattle.ics_components.specs.Parted.{IsSoundParted, parted_of};
 ghost use Rattle.ics_components.specs.PlacedLines.{named, placed, placed_from};
 
-use crate::fault::Fault;
 use crate::front::Front;
 use crate::name::{Name, is_called, name_of};
 use crate::open_part::OpenPart;
-use crate::parsed_file::ParsedFile;
-use crate::parted::{PartedComponent, PartedFile};
+use crate::parted::PartedFile;
 use crate::parts_round::{HasParts, PartsRound, if_sure};
 use ics_text::{Content, Lines, content};
 use std::alloc::{AllocError, Global};
-
-/// What a part is of which this is gathered.
-fn closed(part: OpenPart, read: Result<ParsedFile, Fault>) -> PartedComponent
-    ensures { result ≡ closed_as part read }
-{
-    let OpenPart {
-        calendar,
-        uids,
-        names,
-        zones,
-        is_doubtful,
-        ..
-    } = part;
-    let is_certain = !uids.is_empty() || !is_doubtful;
-    PartedComponent {
-        calendar,
-        uids,
-        is_certain,
-        names,
-        zones,
-        read,
-    }
-}
 
 impl PartsRound {
     /// Opens the event or the time zone that begins on a line, if one does and none is open. Of an event no line is read.
@@ -89,10 +64,10 @@ impl PartsRound {
         };
         if part.is_event {
             let read = front.take(alloc, number)?;
-            self.parted.events.push(closed(part, Ok(read)))?;
+            self.parted.events.push(part.closed(Ok(read)))?;
         } else {
             let read = self.reader.take(alloc);
-            self.parted.zones.push(closed(part, read))?;
+            self.parted.zones.push(part.closed(read))?;
         }
         Ok(())
     }

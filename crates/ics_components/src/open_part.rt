@@ -1,11 +1,14 @@
 //! What is noted of the event or the time zone that is open.
 ghost use Rattle.std.specs.Prelude.{◌≡◌, ◌∷◌, ◌++◌, [], IfOk, Some};
-ghost use Rattle.ics_components.specs.Inner.PartsPass.{here, noted, notes_begun, uids_on, texts_on};
+ghost use Rattle.ics_components.specs.Inner.PartsPass.{closed_as, here, noted, notes_begun, uids_on, texts_on};
 ghost use Rattle.ics_components.specs.PlacedLines.{named};
 ghost use Rattle.ics_components.specs.declared.name.Name.TheVariants as variant;
 
+use crate::fault::Fault;
 use crate::local_time::named_on;
 use crate::name::Name;
+use crate::parsed_file::ParsedFile;
+use crate::parted::PartedComponent;
 use crate::tzid::{Tzid, Tzids};
 use ics_text::Content;
 use ics_values::Text;
@@ -101,5 +104,28 @@ impl OpenPart {
             push_one(&mut self.zones, name)?;
         }
         Ok(())
+    }
+
+    /// The event or the time zone, once it has ended, with what is read of its lines.
+    pub fn closed(self, read: Result<ParsedFile, Fault>) -> PartedComponent
+        ensures { result ≡ closed_as self read }
+    {
+        let OpenPart {
+            calendar,
+            uids,
+            names,
+            zones,
+            is_doubtful,
+            ..
+        } = self;
+        let is_certain = !uids.is_empty() || !is_doubtful;
+        PartedComponent {
+            calendar,
+            uids,
+            is_certain,
+            names,
+            zones,
+            read,
+        }
     }
 }

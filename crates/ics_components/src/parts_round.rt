@@ -13,7 +13,7 @@ use crate::fault::{Fault, FaultKind};
 use crate::lines_reader::LinesReader;
 use crate::name::{Name, is_called, name_of};
 use crate::open_part::OpenPart;
-use crate::parted::{PartedComponent, PartedFile};
+use crate::parted::PartedFile;
 use crate::path::Path;
 use crate::tzid::Tzids;
 use ics_text::{Content, Lines, content};
@@ -131,29 +131,11 @@ impl PartsRound {
         let Some(part) = self.part.take() else {
             return Ok(());
         };
-        let OpenPart {
-            calendar,
-            is_event,
-            uids,
-            names,
-            zones,
-            is_doubtful,
-            ..
-        } = part;
         let read = self.reader.take(alloc);
-        let is_certain = !uids.is_empty() || !is_doubtful;
-        let component = PartedComponent {
-            calendar,
-            uids,
-            is_certain,
-            names,
-            zones,
-            read,
-        };
-        if is_event {
-            self.parted.events.push(component)?;
+        if part.is_event {
+            self.parted.events.push(part.closed(read))?;
         } else {
-            self.parted.zones.push(component)?;
+            self.parted.zones.push(part.closed(read))?;
         }
         Ok(())
     }

@@ -1,20 +1,19 @@
 -- The parts' round over the lines of a front: no event of them is read again.
-use Rattle.std.specs.Prelude.{◌≡◌, ℕ, Bool, true, false, not, ◌||◌, List, [], ◌∷◌, ◌++◌, Option, Some, None, Result, Ok, Err, if◌then◌else◌, option_map}
+use Rattle.std.specs.Prelude.{◌≡◌, ℕ, Bool, true, false, List, [], ◌∷◌, ◌++◌, Option, Some, None, Result, Ok, Err, if◌then◌else◌, option_map}
 use Rattle.std.specs.Option.{option_or}
 use Rattle.ics_values.specs.KeptTexts.{KeptTexts, all_texts}
-use Rattle.ics_components.specs.declared.fault.Fault.{Fault}
 use Rattle.ics_components.specs.declared.fault.FaultKind.TheVariants.{BadLine}
 use Rattle.ics_components.specs.declared.fault.FileFault.{FileFault}
 use Rattle.ics_components.specs.declared.fault.FileFault.TheVariants.{At, Memory}
 use Rattle.ics_components.specs.declared.first_round.FirstRound.{FirstRound}
 use Rattle.ics_components.specs.declared.frame.Frame.{Frame}
-use Rattle.ics_components.specs.EventLines.{is_none_of, is_uid}
+use Rattle.ics_components.specs.EventLines.{is_uid}
 use Rattle.ics_components.specs.FrontSeen.{FrontSeen}
 use Rattle.ics_components.specs.Inner.FrontParts.{front_behind, front_read, has_events}
-use Rattle.ics_components.specs.Inner.PartsPass.{NotesSeen, PartSeen, RoundSeen, and_closed, and_outside, by_part, closes_part, goes_on}
+use Rattle.ics_components.specs.Inner.PartsPass.{PartSeen, RoundSeen, and_closed, and_outside, by_part, closes_part, goes_on}
 use Rattle.ics_components.specs.Inner.PartsPass.{part_begun, round_over, with_line}
 use Rattle.ics_components.specs.ParsedFileSeen.{ParsedFileSeen}
-use Rattle.ics_components.specs.Parted.{Broken, LinesRead, PartedComponentSeen, PartedFileSeen, Reads, read_behind}
+use Rattle.ics_components.specs.Parted.{Broken, LinesRead, PartedFileSeen, Reads, read_behind}
 use Rattle.ics_components.specs.PlacedLines.{Placed, path_behind}
 
 -- At a fault, what the first round has gathered is what it reads of the lines before some of these lines, where all texts are kept.
@@ -46,17 +45,6 @@ closed_with number front part = if part.notes.is_event then record part { read =
 
 abbrev pub front_left : ℕ → FrontSeen → PartSeen → FrontSeen
 front_left number front part = if part.notes.is_event then front_behind number front else front
-
--- a part of which that is gathered
-abbrev pub closed_as : NotesSeen → Result ParsedFileSeen Fault → PartedComponentSeen
-closed_as notes read = record {
-  calendar = notes.calendar;
-  uids = notes.uids;
-  is_certain = not (is_none_of notes.uids) || not notes.is_doubtful;
-  names = notes.names;
-  zones = notes.zones;
-  read = read;
-}
 
 -- where the part that is open ends on that line, if one is open
 abbrev pub closed_fronted : ℕ → Option PartSeen → FrontSeen → RoundSeen → RoundSeen

@@ -1,6 +1,6 @@
 -- One pass over the lines of a file that gathers it event by event and time zone by time zone.
 -- These are the words of the pass. What it gathers of a file stands in Parted, and the proofs show that they agree.
-use Rattle.std.specs.Prelude.{◌≡◌, ℕ, Bool, true, false, ◌&&◌, ◌||◌, not, ◌==◌, List, [], ◌∷◌, ◌++◌, codes, drop, filter, Option, Some, None, is_none}
+use Rattle.std.specs.Prelude.{◌≡◌, ℕ, Bool, true, false, ◌&&◌, ◌||◌, not, ◌==◌, List, [], ◌∷◌, ◌++◌, codes, drop, filter, Option, Some, None, Result, is_none}
 use Rattle.std.specs.Prelude.{if◌then◌else◌}
 use Rattle.std.specs.List.{list_all}
 use Rattle.std.specs.Option.{option_or, option_to_list}
@@ -88,15 +88,19 @@ with_line line part = record { notes = noted_directly line part.notes; read = re
 abbrev pub closes_part : Placed → PartSeen → Bool
 closes_part line part = is_end line && innermost line.path == part.notes.begun
 
-abbrev pub part_closed : PartSeen → PartedComponentSeen
-part_closed part = record {
-  calendar = part.notes.calendar;
-  uids = part.notes.uids;
-  is_certain = not (is_none_of part.notes.uids) || not part.notes.is_doubtful;
-  names = part.notes.names;
-  zones = part.notes.zones;
-  read = gathered_in part.read;
+-- a part of which that is gathered
+abbrev pub closed_as : NotesSeen → Result ParsedFileSeen Fault → PartedComponentSeen
+closed_as notes read = record {
+  calendar = notes.calendar;
+  uids = notes.uids;
+  is_certain = not (is_none_of notes.uids) || not notes.is_doubtful;
+  names = notes.names;
+  zones = notes.zones;
+  read = read;
 }
+
+abbrev pub part_closed : PartSeen → PartedComponentSeen
+part_closed part = closed_as part.notes (gathered_in part.read)
 
 abbrev pub and_closed : PartSeen → PartedFileSeen → PartedFileSeen
 and_closed part had =
