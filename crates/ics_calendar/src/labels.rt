@@ -10,7 +10,7 @@ ghost use Rattle.ics_calendar.specs.Inner.SharedFaults.{needed_by};
 ghost use Rattle.ics_calendar.specs.Inner.SummedUids.{number_by, place_of};
 
 use crate::file_parts::SoundEvent;
-use crate::rising::numbers_rise;
+use crate::rising::uid_numbers_rise;
 use crate::shared_faults::SharedFaults;
 use crate::summed_uid::SummedUid;
 use ics_components::{Fault, ParsedFile, PartedComponent, earlier};
@@ -202,7 +202,7 @@ impl Labels {
         ensures faults { IfOk result (λ labels. labels.faults.items ≡ (labelled (needed_by shared.now) events.items).numbered.faults) }
         ensures events { IfOk result (λ labels. labels.events.items ≡ (labelled (needed_by shared.now) events.items).events) }
     {
-        let are_alone = numbers_rise(&events);
+        let are_alone = uid_numbers_rise(&events);
         Labels::of(alloc, events, are_alone, shared)
     }
 }

@@ -49,7 +49,7 @@ fn is_above(last: u64, number: Option<u64>) -> bool
 }
 
 /// Whether each event has one UID, and the numbers at the ends of these rise.
-pub fn numbers_rise(events: &[PartedComponent]) -> bool
+pub fn uid_numbers_rise(events: &[PartedComponent]) -> bool
     ensures { result ≡ rise_from 0 events.now }
 {
     let mut last = 0;
