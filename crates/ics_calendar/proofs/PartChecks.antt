@@ -22,7 +22,7 @@ use Rattle.ics_components.specs.ParsedFileSeen.{ParsedFileSeen}
 use Rattle.ics_components.specs.Parted.{AreInPlace, begins_part, component_seen, parted_lines}
 use Rattle.ics_components.specs.PlacedLines.{Placed}
 use Rattle.ics_components.proofs.Folds.{item_read}
-use Rattle.ics_components.proofs.GatheredItems.{parsed_in}
+use Rattle.ics_components.proofs.ParsedItems.{parsed_in}
 use Rattle.ics_components.proofs.ItemFaults.{IsIn}
 use Rattle.ics_components.proofs.Opened.{any-in}
 use Rattle.ics_components.proofs.PassLemmas.{parsed_from}

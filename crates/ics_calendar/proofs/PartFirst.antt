@@ -24,7 +24,7 @@ use Rattle.ics_components.specs.Parted.{version_faults}
 use Rattle.ics_components.specs.PlacedLines.{Open, Placed, calendar_of, component, context_of, in_calendar, innermost, is_begin, is_end, is_named}
 use Rattle.ics_components.specs.PlacedLines.{path_behind, value}
 use Rattle.ics_components.proofs.ChosenLines.{chosen_in_place, fault_of, if_empty}
-use Rattle.ics_components.proofs.GatheredItems.{chosen_parsed, each_parsed, parsed_checks, parsed_events, parsed_in, parsed_zones}
+use Rattle.ics_components.proofs.ParsedItems.{chosen_parsed, each_parsed, parsed_checks, parsed_events, parsed_in, parsed_zones}
 use Rattle.ics_components.proofs.PartKinds.{event_gathers, zone_gathers}
 use Rattle.ics_components.proofs.Folds.{item_read}
 use Rattle.ics_components.proofs.ItemFaults.{AreApart, Has, IsCovered, IsIn, Rise, faults_rise, item_fault, least, rise-has}

@@ -14,7 +14,7 @@ use Rattle.ics_components.specs.ParsedFileSeen.{ParsedFileSeen}
 use Rattle.ics_components.specs.Parted.{AreInPlace, PartedComponentSeen, begins_part, component_seen}
 use Rattle.ics_components.specs.PlacedLines.{Placed}
 use Rattle.ics_components.proofs.Folds.{item_read}
-use Rattle.ics_components.proofs.GatheredItems.{parsed_in}
+use Rattle.ics_components.proofs.ParsedItems.{parsed_in}
 use Rattle.ics_components.proofs.ItemFaults.{IsIn}
 use Rattle.ics_components.proofs.Opened.{any-in, in-any, one-begin}
 use Rattle.ics_components.proofs.RestFaults.{in-filter, left-or}

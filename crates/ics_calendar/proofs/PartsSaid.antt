@@ -15,7 +15,7 @@ use Rattle.ics_components.specs.ParsedFileSeen.{ParsedFileSeen}
 use Rattle.ics_components.specs.Parted.{PartedComponentSeen, component_seen, parted_lines}
 use Rattle.ics_components.specs.PlacedLines.{Placed, placed}
 use Rattle.ics_components.proofs.Folds.{item_read}
-use Rattle.ics_components.proofs.GatheredItems.{parsed_in}
+use Rattle.ics_components.proofs.ParsedItems.{parsed_in}
 use Rattle.ics_components.proofs.ItemFaults.{IsIn}
 use Rattle.ics_components.proofs.Opened.{any-in, in-any}
 use Rattle.ics_components.proofs.PlacedApart.{AreParted, are_parted}

@@ -12,7 +12,7 @@ use Rattle.ics_components.specs.Parted.{AreInPlace, begins_part, is_line_of, par
 use Rattle.ics_components.specs.PlacedLines.{Placed}
 use Rattle.ics_components.proofs.ChosenLines.{AreChosen, chosen_in_place, fault_of}
 use Rattle.ics_components.proofs.Folds.{item_read}
-use Rattle.ics_components.proofs.GatheredItems.{chosen_parsed, parsed_checks, parsed_in}
+use Rattle.ics_components.proofs.ParsedItems.{chosen_parsed, parsed_checks, parsed_in}
 use Rattle.ics_components.proofs.ItemFaults.{AreApart, IsIn}
 use Rattle.ics_components.proofs.Opened.{begins_taken}
 use Rattle.ics_components.proofs.PassLemmas.{parsed_from}

@@ -19,10 +19,10 @@ ghost use Rattle.ics_calendar.specs.Inner.SoundParts.{parts_said};
 ghost use Rattle.ics_calendar.specs.Inner.SoundParts.{wanted_by, said_with, zones_for};
 ghost use Rattle.ics_calendar.specs.ZoneTables.{given_by, known_by, name_cmp};
 
-use crate::gathered::Gathered;
 use crate::given_file::GivenFile;
 use crate::judged::first_judged;
 use crate::labels::Labels;
+use crate::parsed_lists::ParsedLists;
 use crate::shared_faults::{SharedFaults, fault_of_rest, sound_zones};
 use crate::unknown_zones::UnknownNames;
 use crate::unresolved_file::UnresolvedFile;
@@ -265,7 +265,7 @@ fn gathered(
     alloc: Global,
     sound: Vec<SoundEvent>,
     zones: Vec<CalendarZone>,
-) -> Result<Gathered, AllocError>
+) -> Result<ParsedLists, AllocError>
     ensures { IfOk result (λ parsed. parsed ≡ gathered_of sound.items zones.items) }
 {
     let mut events = Vec::with_capacity(alloc, sound.len())?;
@@ -287,7 +287,7 @@ fn gathered(
         events.push(own)?;
         checks.append(&mut deferred)?;
     }
-    Ok(Gathered {
+    Ok(ParsedLists {
         zones,
         events,
         checks,
@@ -313,7 +313,7 @@ fn wanted_names(
 }
 
 /// What is gathered says with these zone files, or nothing where a fault stands in it.
-fn said(alloc: Global, parsed: Gathered, files: &ZoneFiles) -> Result<FileEvents, AllocError>
+fn said(alloc: Global, parsed: ParsedLists, files: &ZoneFiles) -> Result<FileEvents, AllocError>
     requires { IsSoundParsed parsed }
     ensures { IfOk result (λ file. said_by file ≡ said_with parsed (given_by files.now)) }
 {

@@ -3,11 +3,11 @@
 
 mod event;
 mod file_parts;
-mod gathered;
 mod given_file;
 mod judged;
 mod labels;
 mod laws;
+mod parsed_lists;
 mod partial_file;
 mod read;
 mod rising;

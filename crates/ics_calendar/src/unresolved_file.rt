@@ -12,8 +12,8 @@ ghost use Rattle.ics_calendar.specs.Settled.{event_in, known_in, unresolved_by, 
 ghost use Rattle.ics_calendar.specs.ZoneTables.{given_by, known_by};
 
 use crate::event::event_of;
-use crate::gathered::Gathered;
 use crate::judged::first_judged;
+use crate::parsed_lists::ParsedLists;
 use crate::shared_zones::SharedZones;
 use crate::unknown_zones::{copied, unknown_names};
 use crate::zone_files::ZoneFiles;
@@ -124,8 +124,8 @@ impl UnresolvedFile {
     {
         numbers_rise();
         let parsed = parse_file(alloc, keep, bytes)?;
-        let gathered = Gathered::whole(alloc, parsed)?;
-        Ok(UnresolvedFile::of_parsed(alloc, shared, gathered)?)
+        let lists = ParsedLists::whole(alloc, parsed)?;
+        Ok(UnresolvedFile::of_parsed(alloc, shared, lists)?)
     }
 
     /// The same with all texts, or the file's first fault and the events before it.
@@ -140,15 +140,15 @@ impl UnresolvedFile {
         numbers_rise();
         match read_first(alloc, KeptTexts::all(), bytes)? {
             FirstRead::Whole(parsed) => {
-                let gathered = Gathered::whole(alloc, parsed)?;
-                Ok(Ok(UnresolvedFile::of_parsed(alloc, shared, gathered)?))
+                let lists = ParsedLists::whole(alloc, parsed)?;
+                Ok(Ok(UnresolvedFile::of_parsed(alloc, shared, lists)?))
             }
             FirstRead::Faulty(fault, front) => Ok(Err((fault, front))),
         }
     }
 
     /// What is gathered of a file, with the names that it wants.
-    pub(crate) fn of(alloc: Global, parsed: Gathered) -> Result<UnresolvedFile, AllocError>
+    pub(crate) fn of(alloc: Global, parsed: ParsedLists) -> Result<UnresolvedFile, AllocError>
         requires { IsSoundParsed parsed }
         ensures { IfOk result (λ unresolved. unresolved_said unresolved ≡ unresolved_by (known_in parsed.zones) parsed.events parsed.checks) }
     {
@@ -160,12 +160,12 @@ impl UnresolvedFile {
     fn of_parsed(
         alloc: Global,
         shared: &mut SharedZones,
-        parsed: Gathered,
+        parsed: ParsedLists,
     ) -> Result<UnresolvedFile, AllocError>
         requires { IsSoundParsed parsed }
         ensures { IfOk result (λ unresolved. unresolved_said unresolved ≡ unresolved_by (known_in parsed.zones) parsed.events parsed.checks) }
     {
-        let Gathered {
+        let ParsedLists {
             zones,
             events,
             checks,

@@ -32,7 +32,7 @@ pub mod RestFirst
 pub mod PartLines
 pub mod RootFaults
 pub mod PlacedApart
-pub mod GatheredItems
+pub mod ParsedItems
 pub mod BlockHolds
 pub mod PartKinds
 pub mod PassedLines

@@ -7,7 +7,7 @@ use Rattle.ics_calendar.proofs.Whole.{unresolved_at, parsed, first-fault, whole-
 use Rattle.ics_calendar.proofs.unresolved_file.UnresolvedFile.or_front.Goals as goal
 
 pub of_parsed-requires : goal.of_parsed-requires
-of_parsed-requires c = subst IsSoundParsed (sym c.in_ok-gathered-in-Whole.ensures) (rw c.in-Whole.is at c.in_ok-parsed.ensures).1
+of_parsed-requires c = subst IsSoundParsed (sym c.in_ok-lists-in-Whole.ensures) (rw c.in-Whole.is at c.in_ok-parsed.ensures).1
 
 -- all texts are kept
 pub returns-in_ok-of_parsed-in-Whole : goal.returns-in_ok-of_parsed-in-Whole
@@ -17,7 +17,7 @@ returns-in_ok-of_parsed-in-Whole c =
     let says = (rw c.in-Whole.is at c.in_ok-parsed.ensures).0 in (
       whole-parsed bytes says.0 rises says.1,
       c.in_ok-of_parsed-in-Whole.ensures
-          ∙ (ap (λ (g : ParsedFileSeen). unresolved_by (known_in g.zones) g.events g.checks) c.in_ok-gathered-in-Whole.ensures
+          ∙ (ap (λ (g : ParsedFileSeen). unresolved_by (known_in g.zones) g.events g.checks) c.in_ok-lists-in-Whole.ensures
           ∙ (unresolved-all c.all.result c.in-Whole.parsed says.0 c.all.ensures says.2 ∙ sym (parsed bytes rises ∙ ap unresolved_at says.1))),
     )
 

@@ -19,13 +19,13 @@ returns-clause-whole c =
     let says = c.in_ok-parsed.ensures.parsed in whole-parsed c.args.bytes.now says.0 (c.numbers_rise.ensures c.args.bytes.now) says.1
 
 pub of_parsed-requires : goal.of_parsed-requires
-of_parsed-requires c = subst IsSoundParsed (sym c.in_ok-gathered.ensures) c.in_ok-parsed.ensures.sound
+of_parsed-requires c = subst IsSoundParsed (sym c.in_ok-lists.ensures) c.in_ok-parsed.ensures.sound
 
 pub returns-clause-unresolved : goal.returns-clause-unresolved
 returns-clause-unresolved c =
     let says = c.in_ok-parsed.ensures.parsed in
     c.in_ok-of_parsed.ensures
-    ∙ (ap (λ (g : ParsedFileSeen). unresolved_by (known_in g.zones) g.events g.checks) c.in_ok-gathered.ensures
+    ∙ (ap (λ (g : ParsedFileSeen). unresolved_by (known_in g.zones) g.events g.checks) c.in_ok-lists.ensures
     ∙ (ap (λ (g : ParsedFileSeen). unresolved_at (Ok g)) says.2
     ∙ (unresolved-kept c.args.keep says.0
     ∙ ap (kept_unresolved c.args.keep) (sym (parsed c.args.bytes.now (c.numbers_rise.ensures c.args.bytes.now) ∙ ap unresolved_at says.1)))))

@@ -1,19 +1,19 @@
-//! What is gathered of a file, with its events in several lists.
+//! What is read of a file, with its events in several lists.
 ghost use Rattle.std.specs.Prelude.{◌≡◌, IfOk};
 
 use ics_components::{CalendarEvent, CalendarZone, LineCheck, ParsedFile};
 use std::alloc::{AllocError, Global};
 use std::marker::Model;
 
-/// What is gathered of a file. Its events lie in several lists: those of its parts are moved into none.
+/// What is read of a file, as a `ParsedFile`. Its events lie in several lists: those of its parts are moved into none.
 #[derive(Drop)]
-pub struct Gathered {
+pub struct ParsedLists {
     pub zones: Vec<CalendarZone>,
     pub events: Vec<Vec<CalendarEvent>>,
     pub checks: Vec<LineCheck>,
 }
 
-impl Model for Gathered {
+impl Model for ParsedLists {
     ghost use Rattle.std.specs.List.{flat_map};
     ghost use Rattle.ics_components.specs.ParsedFileSeen.{ParsedFileSeen};
 
@@ -22,10 +22,10 @@ impl Model for Gathered {
     ghost view = { λ a. record { zones = a.zones.items; events = flat_map (λ own. own.items) a.events.items; checks = a.checks.items } };
 }
 
-impl Gathered {
+impl ParsedLists {
     /// The same with its events in one list.
-    pub fn whole(alloc: Global, parsed: ParsedFile) -> Result<Gathered, AllocError>
-        ensures { IfOk result (λ gathered. gathered ≡ parsed) }
+    pub fn whole(alloc: Global, parsed: ParsedFile) -> Result<ParsedLists, AllocError>
+        ensures { IfOk result (λ lists. lists ≡ parsed) }
     {
         let ParsedFile {
             zones,
@@ -34,7 +34,7 @@ impl Gathered {
         } = parsed;
         let mut lists = Vec::with_capacity(alloc, 1)?;
         lists.push(events)?;
-        Ok(Gathered {
+        Ok(ParsedLists {
             zones,
             events: lists,
             checks,
