@@ -5,10 +5,10 @@ ghost use Rattle.ics_listing.specs.Entry.{entry_of, key_rank, rank_cmp, rank_of}
 ghost use Rattle.std.specs.Option.{option_map};
 ghost use Rattle.ics_listing.specs.After.{is_after};
 
+use crate::key_order::{Keyed, order_of_keys};
 use crate::occurrence::Occurrence;
 use ics_values::Moment;
 use std::alloc::{AllocError, Global};
-use std::cmp::Ordering;
 
 /// Identifies an occurrence of a folder, and orders it among the others: by its start, then by the bytes
 /// of its UID, then by its recurrence.
@@ -36,16 +36,25 @@ impl Key {
     pub(crate) fn is_before(&self, occurrence: &Occurrence<'_>) -> bool
         ensures { result ≡ is_lt (rank_cmp (key_rank self.now) (rank_of (entry_of occurrence.now))) }
     {
-        let event = occurrence.event;
-        let order = match self.start.cmp(&occurrence.start) {
-            Ordering::Equal => self
-                .uid
-                .as_slice()
-                .cmp(event.uid.as_slice())
-                .then(self.recurrence.cmp(&occurrence.recurrence)),
-            order => order,
-        };
-        order.is_lt()
+        order_of_keys(self, occurrence, None).is_lt()
+    }
+}
+
+impl Keyed for Key {
+    ghost use Rattle.ics_listing.specs.Entry.{key_rank};
+
+    ghost rank = { key_rank };
+
+    fn start(&self) -> Moment {
+        self.start
+    }
+
+    fn uid(&self) -> &[u8] {
+        self.uid.as_slice()
+    }
+
+    fn recurrence(&self) -> Moment {
+        self.recurrence
     }
 }
 

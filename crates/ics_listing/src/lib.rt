@@ -6,6 +6,7 @@ mod day_token;
 mod feed;
 mod holding;
 mod key;
+mod key_order;
 mod laws;
 mod lead;
 mod listed_starts;
@@ -22,6 +23,7 @@ pub use day_token::DayToken;
 pub use feed::{Begins, Coming, Feed};
 pub use holding::Holding;
 pub use key::{Key, is_after};
+pub use key_order::{Keyed, order_of_keys};
 pub use laws::{
     day_keys_as_listed, keys_as_listed, listing_merged, one_day_spelling, one_spelling,
 };

@@ -2,6 +2,7 @@
 ghost use Rattle.std.specs.Prelude.{◌≡◌, ◌<ℤ◌, ◌≤ℤ◌};
 ghost use Rattle.ics_listing.specs.WindowBounds.{occurrence_first, occurrence_end};
 
+use crate::key_order::{Keyed, order_of_keys};
 use ics_event::Event;
 use ics_values::Moment;
 use std::cmp::Ordering;
@@ -34,15 +35,25 @@ impl<'a> Occurrence<'a> {
         requires { IsUidOrder uids (entry_of a.now) (entry_of b.now) }
         ensures { result ≡ entry_cmp (entry_of a.now) (entry_of b.now) }
     {
-        let (one, other) = (a.event, b.event);
-        match (a.start.cmp(&b.start), uids) {
-            (Ordering::Equal, Some(order)) => order.then(a.recurrence.cmp(&b.recurrence)),
-            (Ordering::Equal, None) => one
-                .uid
-                .as_slice()
-                .cmp(other.uid.as_slice())
-                .then(a.recurrence.cmp(&b.recurrence)),
-            (order, _) => order,
-        }
+        order_of_keys(a, b, uids)
+    }
+}
+
+impl<'a> Keyed for Occurrence<'a> {
+    ghost use Rattle.ics_listing.specs.Entry.{entry_of, rank_of};
+
+    ghost rank = { λ a. rank_of (entry_of a) };
+
+    fn start(&self) -> Moment {
+        self.start
+    }
+
+    fn uid(&self) -> &[u8] {
+        let event = self.event;
+        event.uid.as_slice()
+    }
+
+    fn recurrence(&self) -> Moment {
+        self.recurrence
     }
 }

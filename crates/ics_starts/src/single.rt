@@ -9,7 +9,7 @@ use crate::finish::finish;
 use crate::instants::instant;
 use crate::zones::FileZones;
 use ics_event::{Event, Rdate};
-use ics_listing::{Occurrence, Start, StartSource, Window, local_of};
+use ics_listing::{Keyed, Occurrence, Start, StartSource, Window, local_of, order_of_keys};
 use ics_values::Moment;
 use std::cmp::Ordering;
 
@@ -79,14 +79,26 @@ impl<'a> Single<'a> {
     pub fn compare(a: &Single<'_>, b: &Single<'_>) -> Ordering
         ensures { result ≡ entry_cmp (single_entry a.now) (single_entry b.now) }
     {
-        let (one, other) = (a.event, b.event);
-        match a.start.cmp(&b.start) {
-            Ordering::Equal => one
-                .uid
-                .as_slice()
-                .cmp(other.uid.as_slice())
-                .then(a.recurrence.cmp(&b.recurrence)),
-            order => order,
-        }
+        order_of_keys(a, b, None)
+    }
+}
+
+impl<'a> Keyed for Single<'a> {
+    ghost use Rattle.ics_listing.specs.Entry.{rank_of};
+    ghost use Rattle.ics_starts.specs.SingleEvents.{single_entry};
+
+    ghost rank = { λ a. rank_of (single_entry a) };
+
+    fn start(&self) -> Moment {
+        self.start
+    }
+
+    fn uid(&self) -> &[u8] {
+        let event = self.event;
+        event.uid.as_slice()
+    }
+
+    fn recurrence(&self) -> Moment {
+        self.recurrence
     }
 }
