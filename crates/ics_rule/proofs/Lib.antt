@@ -13,7 +13,7 @@ pub mod EndLemmas
 pub mod LawLemmas
 mod SizeLemmas
 mod PassLemmas
-mod RoundLemmas
+pub mod RoundLemmas
 mod PassedLemmas
 mod EachLemmas
 mod NeverLemmas
@@ -29,5 +29,5 @@ mod FirstLemmas
 mod FlatLemmas
 mod EvenLemmas
 mod CycleLemmas
-mod CalendarRounds
+pub mod CalendarRounds
 mod GivenLemmas
