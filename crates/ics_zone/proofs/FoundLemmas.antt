@@ -1,6 +1,6 @@
 -- What is known of a time whose onsets are found.
-use Rattle.std.proofs.Common.{◌≡◌, ℕ, ◌<◌, ◌≤◌, inl, inr, sym, refl, subst, arith, List, [], ◌∷◌, ◌++◌, length, get_or, Contains, Option, Some, None, IfSome}
-use Rattle.std.proofs.Common.{All, Global, true, ℤ, ◌<ℤ◌, ◌≤ℤ◌}
+use Rattle.std.proofs.Common.{◌≡◌, ℕ, ◌<◌, ◌≤◌, inl, inr, sym, refl, subst, arith, List, [], ◌∷◌, ◌++◌, length, get_or}
+use Rattle.std.proofs.Common.{All, Contains, Global, Option, Some, None, IfSome, MatchOption, true, ℤ, ◌<ℤ◌, ◌≤ℤ◌}
 use Rattle.std.specs.Prelude.{Vec}
 use Rattle.std.proofs.lemmas.Bool.{cases_lt}
 use Rattle.std.proofs.lemmas.Int.{ints}
@@ -11,7 +11,8 @@ use Rattle.ics_zone.specs.declared.onsets.Onsets.{Onsets}
 use Rattle.ics_zone.specs.Observances.{ObservanceSaid}
 use Rattle.ics_zone.specs.Inner.Latest.{IsInOrder, IsPassed, IsLast, IsLastOf}
 use Rattle.ics_zone.specs.Inner.Marks.{IsAsked}
-use Rattle.ics_zone.specs.Inner.OnsetSets.{Has, AreFound, HasGaps, IsFound, IsGap, IsSound, AreOnsetsOf}
+use Rattle.ics_zone.specs.Inner.OnsetSets.{Has, AreFound, HasGaps, HasRound, IsFound, IsGap, IsSound, AreOnsetsOf}
+use Rattle.ics_zone.specs.Inner.Repeats.{IsRepeated}
 use Rattle.ics_zone.proofs.Cases.{less_or_not_z}
 use Rattle.ics_zone.proofs.LatestLemmas.{next_listed}
 
@@ -195,6 +196,14 @@ pub gaps_are : (s : Onsets) → All (IsGap (Has s)) s.gaps.items → HasGaps s
 unfolding HasGaps
 gaps_are s gaps = gaps
 
+pub round_of : (s : Onsets) → HasRound s → MatchOption s.rule (Unit {0}) (λ r. IsRepeated s.offset_from r s.round)
+unfolding HasRound
+round_of s round = round
+
+pub round_is : (s : Onsets) → MatchOption s.rule (Unit {0}) (λ r. IsRepeated s.offset_from r s.round) → HasRound s
+unfolding HasRound
+round_is s round = round
+
 -- other ones are found, and other gaps
 module _ (s : Onsets) (from to first last : ℤ) (list : Vec ℤ Global) (found : AreFound (Has s) from to list.items) (gaps : Vec Gap Global)
     (are : All (IsGap (Has s)) gaps.items) where
@@ -207,6 +216,8 @@ module _ (s : Onsets) (from to first last : ℤ) (list : Vec ℤ Global) (found 
     first = sound.first;
     found = found_is (record s { found = list; known_from = from; known_to = to; sought_from = first; sought_to = last; gaps = gaps }) found;
     gaps = gaps_are (record s { found = list; known_from = from; known_to = to; sought_from = first; sought_to = last; gaps = gaps }) are;
+    repeats = round_is (record s { found = list; known_from = from; known_to = to; sought_from = first; sought_to = last; gaps = gaps })
+        (round_of s sound.repeats);
   }
 
   pub now_found_of : (p : ObservanceSaid) → AreOnsetsOf p s

@@ -9,6 +9,7 @@ pub mod MomentLemmas
 pub mod LatestLemmas
 pub mod KeptLemmas
 mod NearLemmas
+mod RepeatLemmas
 mod OnsetGapLemmas
 pub mod SixtyLemmas
 pub mod MinuteLemmas

@@ -6,6 +6,7 @@ pub mod Searches
 pub mod MomentSearch
 pub mod ZoneBounds
 pub mod Latest
+pub mod Repeats
 pub mod OnsetSets
 pub mod ZoneOnsets
 pub mod Tables

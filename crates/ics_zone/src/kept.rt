@@ -1,13 +1,14 @@
 //! The locals that a rule keeps near a place, found without counting from its start.
-ghost use Rattle.std.specs.Prelude.{◌≡◌, ℕ, ◌≤◌, ◌<◌, ◌+◌, true, MatchOption};
+ghost use Rattle.std.specs.Prelude.{◌≡◌, ℕ, ◌≤◌, ◌<◌, ◌+◌, ◌⊎◌, true, MatchOption};
 ghost use Rattle.ics_fields.specs.Locals.{calendar_end, number};
+ghost use Rattle.ics_rule.specs.Cursors.{place_of, IsCursorOf};
 ghost use Rattle.ics_rule.specs.Kept.{is_kept};
 ghost use Rattle.ics_rule.specs.Next.{NoneKept, IsNextKept};
 ghost use Rattle.ics_zone.specs.Inner.Latest.{IsLastKept, IsKnownLast};
 ghost use Rattle.ics_period.specs.PeriodNumbers.{rules_end};
 
 use crate::clock::RULES_END;
-use crate::near::{last_near, next_near};
+use crate::near::last_near;
 use ics_fields::Local;
 use ics_rule::{Cursor, Rule};
 
@@ -44,7 +45,7 @@ pub(crate) fn last_kept(rule: &Rule, by_days: bool, ago: u64, bound: u64) -> Opt
 }
 
 /// The last kept local from a place on that is earlier than a bound. Mostly there is just one.
-pub(crate) fn last_between(rule: &Rule, by_days: bool, from: u64, bound: u64) -> Option<u64>
+pub(crate) fn last_between(rule: &Rule, from: u64, bound: u64) -> Option<u64>
     requires from { from ≤ rules_end }
     requires bound { bound ≤ rules_end }
     ensures { MatchOption result (NoneKept rule.now from bound) (IsLastKept rule.now bound) }
@@ -57,7 +58,7 @@ pub(crate) fn last_between(rule: &Rule, by_days: bool, from: u64, bound: u64) ->
     }
     match cursor.next(rule, end) {
         None => Some(first),
-        Some(second) => Some(last_from(rule, by_days, first, second.number(), bound)),
+        Some(second) => Some(last_from(rule, cursor, first, second.number(), bound)),
     }
 }
 
@@ -68,30 +69,53 @@ pub(crate) struct Known {
     pub end: u64,
 }
 
-/// What is known after a look from a place on: a later kept local, or that none is kept from there on.
-fn after_look(rule: &Rule, by_days: bool, known: Known, from: u64) -> Known
-    requires after { known.last < from }
+/// Looks from a place on for a later kept local than the known one, behind which the cursor is. It is known then, with the cursor behind it, or that none is
+/// kept from there on.
+fn look_from(rule: &Rule, cursor: &mut Cursor, known: &mut Known, from: u64)
+    requires own { IsCursorOf rule.now cursor.old }
+    requires behind { place_of cursor.old ≡ known.old.last + 1 }
+    requires after { known.old.last < from }
     requires from { from ≤ rules_end }
-    requires end { known.end ≤ rules_end }
-    ensures known { (bound : ℕ) → IsKnownLast rule.now bound known → IsKnownLast rule.now bound result }
-    ensures later { known.last ≤ result.last }
-    ensures earlier { result.end ≤ known.end }
+    requires end { known.old.end ≤ rules_end }
+    ensures own { IsCursorOf rule.now cursor.new }
+    ensures behind { place_of cursor.new ≡ known.new.last + 1 }
+    ensures known { (bound : ℕ) → IsKnownLast rule.now bound known.old → IsKnownLast rule.now bound known.new }
+    ensures later { known.old.last ≤ known.new.last }
+    ensures earlier { known.new.end ≤ known.old.end }
+    ensures moves { (from ≤ known.new.last) ⊎ (known.new.end ≤ from) }
 {
-    match next_near(rule, by_days, from, known.end) {
-        Some(last) => Known {
-            last,
-            end: known.end,
-        },
-        None => Known {
-            last: known.last,
-            end: from.min(known.end),
-        },
+    let mut probe = *cursor;
+    probe.pass(rule, Local::numbered(from));
+    match probe.next(rule, Local::numbered(known.end)) {
+        Some(next) => {
+            known.last = next.number();
+            *cursor = probe;
+        }
+        None => known.end = from.min(known.end),
     }
 }
 
-/// The last kept local that is earlier than a bound, given two kept locals that follow each other. The gap between two is the guess for the
-/// gap before the bound. If the guess fails, the rest is halved.
-fn last_from(rule: &Rule, by_days: bool, first: u64, second: u64, bound: u64) -> u64
+/// Halves what is not known of the last kept local, until it is not more than a gap.
+fn halve(rule: &Rule, cursor: &mut Cursor, known: &mut Known, gap: u64)
+    requires own { IsCursorOf rule.now cursor.old }
+    requires behind { place_of cursor.old ≡ known.old.last + 1 }
+    requires gap { 1 ≤ gap }
+    requires end { known.old.end ≤ rules_end }
+    ensures own { IsCursorOf rule.now cursor.new }
+    ensures behind { place_of cursor.new ≡ known.new.last + 1 }
+    ensures known { (bound : ℕ) → IsKnownLast rule.now bound known.old → IsKnownLast rule.now bound known.new }
+{
+    while known.end > known.last && known.end - known.last - 1 > gap {
+        let middle = known.last + (known.end - known.last) / 2 + 1;
+        look_from(rule, cursor, known, middle);
+    }
+}
+
+/// The last kept local that is earlier than a bound, given two kept locals that follow each other and a cursor behind them. The gap between two is the guess
+/// for the gap before the bound. If the guess fails, the rest is halved. The cursor is never set back, so that no period is laid out twice.
+fn last_from(rule: &Rule, behind: Cursor, first: u64, second: u64, bound: u64) -> u64
+    requires own { IsCursorOf rule.now behind }
+    requires behind { place_of behind ≡ second + 1 }
     requires kept { is_kept rule.now second ≡ true }
     requires order { first < second }
     requires early { second < bound }
@@ -99,20 +123,18 @@ fn last_from(rule: &Rule, by_days: bool, first: u64, second: u64, bound: u64) ->
     ensures { IsLastKept rule.now bound result }
 {
     let gap = second - first;
+    let mut cursor = behind;
     let mut known = Known {
         last: second,
         end: bound,
     };
-    known = after_look(
-        rule,
-        by_days,
-        known,
-        (bound.saturating_sub(gap)).max(second + 1),
-    );
-    while let Some(next) = next_near(rule, by_days, known.last + 1, known.end) {
-        known.last = next;
+    let guess = bound.saturating_sub(gap).max(second + 1);
+    look_from(rule, &mut cursor, &mut known, guess);
+    halve(rule, &mut cursor, &mut known, gap);
+    while let Some(next) = cursor.next(rule, Local::numbered(known.end)) {
+        known.last = next.number();
         let middle = known.last + (known.end - known.last) / 2 + 1;
-        known = after_look(rule, by_days, known, middle);
+        look_from(rule, &mut cursor, &mut known, middle);
     }
     known.last
 }

@@ -28,8 +28,8 @@ const FOUND_OF_EACH: usize = 8_192;
 
 const FOUND: usize = 262_144;
 
-/// How many days that have onsets are looked at for the gaps between them, of all observances together.
-const GAPS: usize = 786_432;
+/// How many days that have onsets are looked at for the gaps between them, of all observances together, and half as many of one.
+const GAPS: usize = 524_288;
 
 /// A zone of more observances has those found whose rules are plain too.
 const SOME: usize = 8;
@@ -111,7 +111,7 @@ pub(crate) fn find_each(onsets: &mut [Onsets], from: Moment, to: Moment)
     ensures { (zone : List ObservanceSaid) → AreOnsetsOfAll zone onsets.old → AreOnsetsOfAll zone onsets.new }
 {
     let most = FOUND_OF_EACH.min(FOUND / onsets.len().max(1));
-    let days = GAPS / onsets.len().max(1);
+    let days = GAPS / onsets.len().max(2);
     let with_plain = onsets.len() > SOME;
     for k in 0..onsets.len() {
         if onsets[k].must_find(with_plain, from, to) {

@@ -21,6 +21,7 @@ mod observed;
 mod onset_laws;
 mod onsets;
 mod place;
+mod rounds;
 mod rule_stretch;
 mod seconds;
 mod shared_observed;

@@ -176,7 +176,7 @@ pub(crate) fn last_near(rule: &Rule, by_days: bool, from: u64, bound: u64) -> Op
     while days > 0 && from < end {
         let day = (end - 1) / DAY;
         let Some(times) = rule.day(day as u32) else {
-            return last_between(rule, by_days, from, end);
+            return last_between(rule, from, end);
         };
         if let Some(second) = last_second(&times, (end - day * DAY) as u32) {
             return Some(day * DAY + u64::from(second));
@@ -185,7 +185,7 @@ pub(crate) fn last_near(rule: &Rule, by_days: bool, from: u64, bound: u64) -> Op
         days -= 1;
     }
     if from < end {
-        last_between(rule, by_days, from, end)
+        last_between(rule, from, end)
     } else {
         None
     }

@@ -7,12 +7,14 @@ ghost use Rattle.ics_fields.specs.Days.{IsStampDay};
 ghost use Rattle.ics_rule.specs.Kept.{until_moment};
 ghost use Rattle.ics_zone.specs.Observances.{ObservanceSaid, IsObservance, is_until, rule_from};
 ghost use Rattle.ics_zone.specs.Inner.Latest.{IsInOrder, IsPassed, IsLast, IsLastOf, IsLastAfter};
+ghost use Rattle.ics_zone.specs.Inner.Repeats.{IsRepeated};
 ghost use Rattle.ics_zone.specs.Inner.OnsetSets.{IsShownTo, IsKeptAt, Has, AreFound, IsSound, AreOnsetsOf, IsListing, IsEnd, held_rule};
 
 use crate::clock::{RULES_END, instant, shown_by};
 use crate::gaps::Gap;
 use crate::kept::{last_kept, last_of_all, next_kept};
 use crate::near::{is_often, last_near, next_near, size_of};
+use crate::rounds::{NO_ROUND, Round, round_of};
 use ics_fields::{Frequency, Local, Moment, Parts};
 use ics_rule::{Kind, Rule};
 use ics_values::Observance;
@@ -23,10 +25,11 @@ const DAY: u64 = 86_400;
 /// A rule that lists more times of a day lists many.
 const OFTEN: u64 = 8;
 
-/// Under BYSETPOS a look for the next onset takes so many times as long, and so many if periods are years.
-const COSTS: usize = 3;
+/// Under BYSETPOS a look for the next onset takes so many times as long, if periods are years.
+const COSTS_OF_YEARS: usize = 2;
 
-const COSTS_OF_YEARS: usize = 32;
+/// So many onsets are found of a rule with BYSETPOS before its gaps are.
+const FOUND_OF_POSITIONS: usize = 256;
 
 /// The onsets of one observance. Those of its rule are not listed: they are searched for near the instant of interest.
 #[derive(Drop)]
@@ -45,8 +48,12 @@ pub(crate) struct Onsets {
     pub is_slow: bool,
     /// Whether days are looked at one by one first.
     pub by_days: bool,
+    /// Whether its rule has BYSETPOS.
+    pub by_positions: bool,
     /// How many times as long as in other rules a look for the next onset takes.
     pub costs: usize,
+    /// After how many seconds what the rule keeps repeats.
+    pub round: Round,
     /// The onsets after one instant and before another, in order.
     pub found: Vec<Moment>,
     pub known_from: Moment,
@@ -89,11 +96,34 @@ fn spacing(observance: &Observance) -> u64 {
     };
     days.saturating_mul(DAY)
         .saturating_mul(u64::from(parts.interval))
+        / positions_of(parts).max(1)
+}
+
+/// How many positions a rule lists in BYSETPOS.
+fn positions_of(parts: &Parts) -> u64 {
+    if parts.positions.is_empty() {
+        return 0;
+    }
+    let mut count: u64 = 0;
+    for n in 0..384_u16 {
+        if parts.positions.front.contains(n) {
+            count = count.saturating_add(1);
+        }
+        if parts.positions.back.contains(n) {
+            count = count.saturating_add(1);
+        }
+    }
+    count
 }
 
 /// The same of a daily rule.
 fn daily_spacing(parts: &Parts) -> u64 {
-    DAY.saturating_mul(u64::from(parts.interval)) / times_of(parts).max(1)
+    let times = if parts.positions.is_empty() {
+        times_of(parts)
+    } else {
+        positions_of(parts)
+    };
+    DAY.saturating_mul(u64::from(parts.interval)) / times.max(1)
 }
 
 /// Whether a rule that goes by longer periods than days lists many times of a day.
@@ -134,16 +164,22 @@ fn has_slow_rule(observance: &Observance) -> bool {
     }
 }
 
+/// Whether an observance has a rule with BYSETPOS.
+fn has_positions(observance: &Observance) -> bool {
+    match &observance.rule {
+        Some(rule) => !rule.parts().positions.is_empty(),
+        None => false,
+    }
+}
+
 /// How many times as long as in other rules a look for the next onset takes. Under BYSETPOS the candidates of a period are counted.
 fn costs_of(observance: &Observance) -> usize {
-    let Some(rule) = &observance.rule else {
-        return 1;
-    };
-    let parts = rule.parts();
-    match (parts.positions.is_empty(), parts.frequency) {
-        (true, _) => 1,
-        (false, Frequency::Yearly) => COSTS_OF_YEARS,
-        (false, _) => COSTS,
+    match &observance.rule {
+        Some(rule)
+            if has_positions(observance) && matches!(rule.parts().frequency, Frequency::Yearly) => {
+            COSTS_OF_YEARS
+        }
+        _ => 1,
     }
 }
 
@@ -191,21 +227,24 @@ fn end_of(parts: &Parts, start: Local, offset_from: i32) -> Moment
     }
 }
 
-/// The rule of an observance, from its DTSTART on and without COUNT, and the last instant at which it may have an onset.
-fn rule_of(observance: &Observance) -> (Option<Rule>, Moment)
+/// The rule of an observance, from its DTSTART on and without COUNT, the last instant at which it may have an onset, and the round of the rule.
+fn rule_of(observance: &Observance) -> (Option<Rule>, Moment, Round)
     requires { IsObservance observance.now }
     ensures rule { result.0 ≡ option_map (held_rule observance.now.start) observance.now.rule }
     ensures end { IfSome (option_map (rule_from observance.now.start) observance.now.rule) (IsEnd observance.now.offset_from result.1) }
+    ensures round { IfSome (option_map (held_rule observance.now.start) observance.now.rule) (λ r. IsRepeated observance.now.offset_from r result.2) }
 {
     let Some(rule) = &observance.rule else {
-        return (None, Moment::MAX);
+        return (None, Moment::MAX, NO_ROUND);
     };
     let until = end_of(rule.parts(), observance.start, observance.offset_from);
+    let round = round_of(rule.parts(), observance.start, observance.offset_from);
     let mut held = *rule.parts();
     held.count = None;
     (
         Some(Rule::new(held, observance.start, Kind::DateTime)),
         until,
+        round,
     )
 }
 
@@ -230,7 +269,7 @@ impl Onsets {
         ensures { IfOk result (AreOnsetsOf observance.now) }
     {
         let listed = listed(alloc, observance)?;
-        let (rule, until) = rule_of(observance);
+        let (rule, until, round) = rule_of(observance);
         let ago = spacing(observance);
         Ok(Onsets {
             offset_from: observance.offset_from,
@@ -241,7 +280,9 @@ impl Onsets {
             ago,
             is_slow: has_slow_rule(observance),
             by_days: has_frequent_rule(observance),
+            by_positions: has_positions(observance),
             costs: costs_of(observance),
+            round,
             found: Vec::new(alloc),
             known_from: 0,
             known_to: 0,
@@ -344,7 +385,7 @@ impl Onsets {
         let last = self.sought_to.max(to);
         let begin = self.begin_by(first);
         let mut found = Vec::new(*self.listed.allocator());
-        let end = self.list_between(begin, last, most, &mut found);
+        let end = self.list_between(begin, last, self.found_at_most(most), &mut found);
         let gaps = self.list_gaps(end, last, days);
         self.sought_from = first;
         self.sought_to = last;
@@ -352,6 +393,15 @@ impl Onsets {
         self.known_from = begin;
         self.known_to = end;
         self.gaps = gaps;
+    }
+
+    /// How many onsets are found, of so many, before gaps are. They are few under BYSETPOS.
+    fn found_at_most(&self, most: usize) -> usize {
+        if self.by_positions {
+            most.min(FOUND_OF_POSITIONS)
+        } else {
+            most
+        }
     }
 
     /// An instant before the last onset that is not after another, or before all if there is no such onset.

@@ -14,6 +14,7 @@ use Rattle.ics_zone.specs.declared.gaps.Gap.{Gap}
 use Rattle.ics_zone.specs.declared.onsets.Onsets.{Onsets}
 use Rattle.ics_zone.specs.Observances.{ObservanceSaid, instant_by, is_until, is_onset, rule_from}
 use Rattle.ics_zone.specs.Inner.Latest.{IsInOrder}
+use Rattle.ics_zone.specs.Inner.Repeats.{IsRepeated}
 use Rattle.ics_period.specs.PeriodNumbers.{rules_end}
 
 -- an instant or a local about which onsets are searched for: about 9,500 years either way, so that the years 0000 to 9950 have room on both sides
@@ -87,6 +88,10 @@ pub record IsGapKept (onsets : Onsets) (r : Recurrence) (t : ℤ) (last : ℕ) (
   pub early : last < end
   pub follows : MatchOption next (NoneKept r (last + 1) end) (IsNextKept r (last + 1) end)
 
+-- what the rule keeps repeats
+unfoldable pub HasRound : Onsets → Type 0
+HasRound onsets = MatchOption onsets.rule (Unit {0}) (λ r. IsRepeated onsets.offset_from r onsets.round)
+
 -- the onsets are listed in order, none is earlier than the first listed one, and those of a time are found
 pub record IsSound (onsets : Onsets) : Type 0 where
   pub from_in : IsWithin 86_399 onsets.offset_from
@@ -95,6 +100,7 @@ pub record IsSound (onsets : Onsets) : Type 0 where
   pub first : (t d : ℤ) → IsKeptAt onsets t → slice_index_or onsets.listed.items 0 d ≤ℤ t
   pub found : IsFound onsets
   pub gaps : HasGaps onsets
+  pub repeats : HasRound onsets
 
 -- the onsets are those of an observance
 pub record AreOnsetsOf (p : ObservanceSaid) (onsets : Onsets) : Type 0 where

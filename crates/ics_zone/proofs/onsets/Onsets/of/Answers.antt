@@ -12,9 +12,10 @@ use Rattle.ics_rule.specs.Kept.{is_kept}
 use Rattle.ics_zone.specs.declared.onsets.Onsets.{Onsets}
 use Rattle.ics_zone.specs.Observances.{ObservanceSaid, IsObservanceSaid, instant_by, rule_from, is_by_rule, is_onset}
 use Rattle.ics_zone.specs.Inner.OnsetSets.{Has, IsGap, IsKeptBy, AreOnsetsOf, IsListing, IsEnd, is_listed, held_rule}
+use Rattle.ics_zone.specs.Inner.Repeats.{IsRepeated}
 use Rattle.ics_zone.proofs.Cases.{int_le_true, true_int_le}
 use Rattle.ics_zone.proofs.EndLemmas.{kept_early}
-use Rattle.ics_zone.proofs.FoundLemmas.{gaps_are, none_found, found_is}
+use Rattle.ics_zone.proofs.FoundLemmas.{gaps_are, none_found, found_is, round_is}
 use Rattle.ics_zone.proofs.OnsetLemmas.{onset-local, local-onset}
 use Rattle.ics_period.specs.PeriodNumbers.{rules_end}
 use Rattle.ics_zone.proofs.onsets.Onsets.of.Goals as goal
@@ -27,7 +28,8 @@ onset_at : (p : ObservanceSaid) (t : ℤ) (n : ℕ) → t ≡ instant_by p.offse
 onset_at p t n at = local-onset p t n at ∙ same_or (n == number p.start) _ _
 
 module _ (p : ObservanceSaid) (facts : IsObservanceSaid p) (s : Onsets) (from : s.offset_from ≡ p.offset_from) (to : s.offset_to ≡ p.offset_to)
-    (listing : IsListing p s.listed.items) (none : s.found.items ≡ []) (no_gaps : s.gaps.items ≡ []) (quiet : s.known_to ≤ℤ s.known_from) where
+    (listing : IsListing p s.listed.items) (none : s.found.items ≡ []) (no_gaps : s.gaps.items ≡ []) (quiet : s.known_to ≤ℤ s.known_from)
+    (round : IfSome (option_map (held_rule p.start) p.rule) (λ r. IsRepeated p.offset_from r s.round)) where
   start_listed : Contains s.listed.items (instant_by p.offset_from (number p.start))
   start_listed = listing.complete (number p.start) (or_left (number p.start == number p.start) _ ((Decides-eqb (number p.start) (number p.start)).1 refl))
 
@@ -77,6 +79,7 @@ module _ (p : ObservanceSaid) (facts : IsObservanceSaid p) (s : Onsets) (from : 
           first = λ t d h. first_is p.rule t d (rw made at h);
           found = found_is s (none_found _ s.known_from s.known_to s.found.items none (λ t h late. omega (arith, ints, quiet, late)));
           gaps = gaps_are s (All-same (IsGap (Has s)) s.gaps.items [] no_gaps (All-nil (IsGap (Has s))));
+          repeats = round_is s (rw (made, from) round);
         };
         from = from;
         to = to;
@@ -104,4 +107,4 @@ returns c =
     )
     (onsets_made c.args.observance.now c.requires.bounds _ (ap (λ (p : ObservanceSaid). p.offset_from) c.observance.view_is)
     (ap (λ (p : ObservanceSaid). p.offset_to) c.observance.view_is) c.in_ok-listed.ensures c.new.ensures.items c.new-2.ensures.items (omega (arith, ints))
-    c.rule_of-rule.ensures.rule c.rule_of-rule.ensures.end)
+    c.rule_of-rule.ensures.round c.rule_of-rule.ensures.rule c.rule_of-rule.ensures.end)

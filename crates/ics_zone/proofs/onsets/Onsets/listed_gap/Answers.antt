@@ -1,7 +1,7 @@
 use Rattle.std.proofs.Common.{rules, ◌-◌, ◌<◌, length, subst, sym}
 use Rattle.ics_zone.specs.Inner.OnsetSets.{Has, IsGap}
 use Rattle.ics_zone.proofs.FoundLemmas.{gaps_of}
-use Rattle.ics_zone.proofs.onsets.Onsets.known_gap.Goals as goal
+use Rattle.ics_zone.proofs.onsets.Onsets.listed_gap.Goals as goal
 
 pub returns-then-moment-gap-clause-gap : goal.returns-then-moment-gap-clause-gap
 returns-then-moment-gap-clause-gap c =
