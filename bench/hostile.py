@@ -436,6 +436,9 @@ ROWS = [
     ('2 events of 36,525 days in one of three time zones alike that turn each minute of half an hour, three days a year',
      lambda: in_alike(2, ['even', 'odd', 'prime'], [part('STANDARD', '00010101T000000', '-0100', '+0100', 'RRULE:FREQ=YEARLY;BYMONTHDAY=1,2,3;BYMINUTE='
                       + ','.join(str(minute) for minute in range(30)))], LONG, 'RRULE:FREQ=DAILY'), DAY, 2, 32),
+    ('4 events of a hundred years since the year 1 in a time zone of its own by 52 places in a year of hours, a window of ages',
+     lambda: in_alike(4, ['odd'], ruled(1, 'FREQ=YEARLY;BYDAY=%s;BYHOUR=%s;BYSETPOS=%s' % (WEEK, HOURS, ','.join(str(hour) for hour in range(7, 366, 7)))),
+                      LONG, 'RRULE:FREQ=YEARLY'), AGES[:2], 4, 32),
     ('8 events a hundred years apart in each of 9 time zones of hourly observances, a window of ages, limit 1', lambda: far_apart(9, 8),
      AGES[:2] + AGES[3:], 24, 32),
     ('seconds by sevens that seldom match on three weekdays, a window of ages',
