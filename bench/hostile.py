@@ -191,6 +191,13 @@ def once_in(start, *more):
     return calendar(['BEGIN:VEVENT', 'UID:0@example.org', 'DTSTART:' + start, *more, 'END:VEVENT'])
 
 
+def removed_periods():
+    """Days since 1900, and 230 PERIODs of a hundred years, 25 days apart, that EXDATEs remove."""
+    at = [(datetime.date(1990, 1, 1) + datetime.timedelta(25 * number)).strftime('%Y%m%dT000000') for number in range(230)]
+    return once_in('19000101T000000', 'RRULE:FREQ=DAILY', 'DURATION:P1D', 'RDATE;VALUE=PERIOD:' + ','.join(each + '/P36525D' for each in at),
+                   'EXDATE:' + ','.join(at))
+
+
 def yearly_since(count, parts):
     """So many yearly events, from the years 2 and later on, in a time zone of these observances."""
     lines = zone('odd', *parts)
@@ -409,6 +416,8 @@ ROWS = [
     ('220 PERIODs of a hundred years and as many exceptions at them, by the clock of New York, each day of ten years',
      lambda: once_in(*running(220, '', 'EXDATE:' + ','.join('2019' + at[4:] for at in stamps(220, 300)))),
      ['2024-01-01', '3660d', '--every-day', *NEW_YORK], 8, 32),
+    ('230 PERIODs of a hundred years that exceptions remove from days since 1900, each day of a hundred years by the clock of New York', removed_periods,
+     ['2024-01-01', '36525d', '--every-day', *NEW_YORK], 37, 32),
     ('450 further dates since 1700 behind a PERIOD of ages, each day of a hundred years by the clock of New York',
      lambda: once_in('16990101T000000', 'RDATE;VALUE=PERIOD:16990102T000000/97900101T000000',
                      'RDATE:' + ','.join('%d%02d01T120000' % (year, month) for year in range(1700, 2000, 8) for month in range(1, 13))),

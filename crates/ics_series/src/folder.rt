@@ -19,7 +19,7 @@ ghost use Rattle.ics_listing.specs.Tokens.{IsDayKey, IsKey};
 
 use crate::agenda::Agenda;
 use crate::days::Days;
-use crate::prepare::prepare_each;
+use crate::prepare::{prepare_each, prepare_shown};
 use ics_file::FileEvents;
 use ics_listing::{Coming, DayKey, Key, Window};
 use ics_zone::Display;
@@ -59,12 +59,13 @@ impl Folder {
         })
     }
 
-    /// Prepares the zones of the files for a window, so that listing it, under each day or not, is faster. No listing needs this call, and it changes
-    /// no answer.
+    /// Prepares the zones of the files and the display zone for a window, so that listing it, under each day or not, is faster. No listing needs this
+    /// call, and it changes no answer.
     pub fn prepare(&mut self, window: &Window, every_day: bool)
         ensures { self.new ≡ self.old }
     {
         prepare_each(&mut self.files, window, every_day);
+        prepare_shown(&mut self.display, &self.files, window, every_day);
     }
 
     /// The occurrences that meet the window, in the order of their keys. With a key, only those of

@@ -6,13 +6,19 @@ use ics_fields::Until;
 use ics_file::FileEvents;
 use ics_listing::{Window, local_of};
 use ics_starts::is_single;
-use ics_values::{Duration, Moment};
-use ics_zone::Zone;
+use ics_values::{Duration, Frequency, Moment, Stamp};
+use ics_zone::{Display, Zone};
 
 const DAY: i64 = 86_400;
 
 /// The length of a short window. Most zones keep an offset for longer.
 const SHORT: i64 = 120 * DAY;
+
+/// A window that is shorter is no longer than a year.
+const YEAR: i64 = 367 * DAY;
+
+/// So many RDATEs are few.
+const FEW: usize = 64;
 
 /// How long before a window an occurrence can end that is asked for.
 const LATE: i64 = 4 * DAY;
@@ -38,6 +44,81 @@ pub(crate) fn prepare_each(files: &mut [FileEvents], window: &Window, every_day:
     for k in 0..files.len() {
         prepare_file(&mut files[k], window, every_day);
     }
+}
+
+/// Prepares the zone in which a listing is shown, where its dates and floating times are read. It makes a listing faster and changes no answer.
+pub(crate) fn prepare_shown(
+    display: &mut Display,
+    files: &[FileEvents],
+    window: &Window,
+    every_day: bool,
+)
+    ensures { display.new ≡ display.old }
+{
+    if every_day && window.to < window.from.saturating_add(YEAR) {
+        let from = window.from.saturating_sub(LATE);
+        display.note_often(from, window.to.saturating_add(LATE));
+    }
+    for file in files {
+        note_shown_each(display, &file.events, window, every_day);
+    }
+    display.learn();
+}
+
+/// The display zone takes note of the instants between which these events ask it again and again.
+fn note_shown_each(display: &mut Display, events: &[Event], window: &Window, every_day: bool)
+    ensures { display.new ≡ display.old }
+{
+    for event in events {
+        note_shown(display, event, window, every_day);
+    }
+}
+
+/// The same for an event.
+fn note_shown(display: &mut Display, event: &Event, window: &Window, every_day: bool)
+    ensures { display.new ≡ display.old }
+{
+    if is_shown(event.start) && asks_often(event) {
+        let (from, to) = asked_through(event, window, every_day);
+        if from < to {
+            display.note_often(from, to);
+        }
+    }
+    if every_day {
+        note_shown_dates(display, event, window);
+    }
+}
+
+/// The same for the RDATEs of an event that last long.
+fn note_shown_dates(display: &mut Display, event: &Event, window: &Window)
+    ensures { display.new ≡ display.old }
+{
+    for rdate in &event.rdates {
+        let Some(lasting) = lasting_date(event, *rdate, window) else {
+            continue;
+        };
+        if lasting.is_shown {
+            let from = lasting.first.saturating_sub(LATE);
+            display.note_often(from, lasting.last.saturating_add(LATE));
+        }
+    }
+}
+
+/// Whether an event may ask for so many instants in a long window that it is worth while to find the stretches there: if it recurs more often than
+/// yearly, has many RDATEs, or lasts long.
+fn asks_often(event: &Event) -> bool {
+    if event.rdates.len() > FEW || lasting_of(event) >= SHORT {
+        return true;
+    }
+    match &event.rule {
+        None => false,
+        Some(rule) => rule.parts().frequency != Frequency::Yearly,
+    }
+}
+
+/// Whether a time is read in the zone in which a listing is shown.
+fn is_shown(time: Time) -> bool {
+    matches!(time.stamp, Stamp::Date(_) | Stamp::Floating(_))
 }
 
 /// Prepares the zones of a file, if it has any.
@@ -78,8 +159,12 @@ fn note_through_each(file: &mut FileEvents, window: &Window, every_day: bool) ->
         if from >= to {
             continue;
         }
+        let often = asks_often(&file.events[k]);
         if let Some(zone) = file.zones.get_mut(index as usize) {
             zone.note_through(from, to);
+            if often {
+                zone.note_often(from, to);
+            }
             any = true;
         }
     }
@@ -150,7 +235,9 @@ fn note_through_dates(zones: &mut [Zone], event: &Event, window: &Window) -> boo
         let place = lasting.place.unwrap_or(usize::MAX);
         if place < zones.len() {
             let from = lasting.first.saturating_sub(LATE);
-            zones[place].note_through(from, lasting.last.saturating_add(LATE));
+            let to = lasting.last.saturating_add(LATE);
+            zones[place].note_through(from, to);
+            zones[place].note_often(from, to);
             any = true;
         }
     }
@@ -190,10 +277,11 @@ fn reach_at(zones: &mut [Zone], place: Option<usize>, near: Moment)
     }
 }
 
-/// An RDATE that lasts long: the place of its zone, if it has one, and about from when to when it is.
+/// An RDATE that lasts long: the place of its zone, if it has one, whether it is read in the display zone, and about from when to when it is.
 #[derive(Clone, Copy)]
 struct LastingDate {
     place: Option<usize>,
+    is_shown: bool,
     first: Moment,
     last: Moment,
 }
@@ -218,6 +306,7 @@ fn lasting_date(event: &Event, rdate: Rdate, window: &Window) -> Option<LastingD
     }
     Some(LastingDate {
         place: place_of(start),
+        is_shown: is_shown(start),
         first,
         last,
     })

@@ -28,5 +28,6 @@ pub mod CandidateLemmas
 pub mod ReadLemmas
 pub mod BoundsLemmas
 pub mod FileStretchLemmas
+pub mod LearnedLemmas
 pub mod RuleTurnLemmas
 pub mod RuleStretchLemmas

@@ -8,16 +8,20 @@ ghost use Rattle.ics_fields.specs.Locals.{seconds_at};
 
 use crate::display_text::read_offset;
 use crate::jiff_zone::JiffZone;
+use crate::learned_zone::LearnedZone;
 use crate::{Bounds, DisplayFault, Place, Spans, Stretch, ZoneFile};
 use ics_fields::{Local, Moment};
 use jiff_core::Offset;
 use jiff_tz::posix;
 use std::alloc::{AllocError, Global};
 
+/// The greatest number of stretches that are found for a listing. Those of most zones span two thousand years.
+const MOST: usize = 4_096;
+
 /// The zone in which a listing is shown: UTC, a fixed offset, the rule of a POSIX TZ string, or what a zone file says.
 #[derive(Drop)]
 pub struct Display {
-    zone: JiffZone,
+    zone: LearnedZone,
 }
 
 impl Display {
@@ -25,20 +29,20 @@ impl Display {
     /// POSIX TZ string as jiff reads it, such as `EST5EDT,M3.2.0,M11.1.0`. `BadZone` for any other text,
     /// and no other fault. Nothing is allocated.
     #[tactic(auto, unfolding(crate::specs::ZoneSaid::jiff_said))]
-    pub fn parse(_alloc: Global, text: &str) -> Result<Display, DisplayFault>
+    pub fn parse(alloc: Global, text: &str) -> Result<Display, DisplayFault>
         ensures said { IfOk result (λ display. Some (display_said display) ≡ display_of text.now) }
         ensures refused { (result ≡ Err DisplayFault.BadZone) ↔ (display_of text.now ≡ None) }
         ensures only { IfErr result (λ fault. fault ≡ DisplayFault.BadZone) }
     {
         if text == "UTC" || text == "Z" {
-            return Ok(fixed(0));
+            return Ok(fixed(alloc, 0));
         }
         if let Some(seconds) = read_offset(text.as_bytes()) {
-            return Ok(fixed(seconds));
+            return Ok(fixed(alloc, seconds));
         }
         match posix::TimeZone::parse(text.as_bytes()) {
             Ok(rule) => Ok(Display {
-                zone: JiffZone::Posix(rule),
+                zone: LearnedZone::new(alloc, JiffZone::Posix(rule)),
             }),
             Err(_) => Err(DisplayFault::BadZone),
         }
@@ -49,8 +53,23 @@ impl Display {
         ensures { IfOk result (λ display. display_said display ≡ ZoneSaid.ByFile file.now) }
     {
         Ok(Display {
-            zone: JiffZone::of_file(file)?,
+            zone: LearnedZone::of_file(file)?,
         })
+    }
+
+    /// Takes note of instants between which the zone will be asked again and again. No answer changes.
+    pub fn note_often(&mut self, from: Moment, to: Moment)
+        ensures { self.new ≡ self.old }
+    {
+        self.zone.note_often(from, to);
+    }
+
+    /// Makes answers between the instants that were noted faster and changes none: the stretches there are found once. Those for which no memory is
+    /// found are asked for as before.
+    pub fn learn(&mut self)
+        ensures { self.new ≡ self.old }
+    {
+        self.zone.learn(MOST);
     }
 }
 
@@ -69,13 +88,13 @@ impl Clone for Display {
 
 /// The zone with this offset, in seconds, at all times.
 #[tactic(auto, unfolding(crate::specs::ZoneSaid::jiff_said))]
-fn fixed(seconds: i32) -> Display
+fn fixed(alloc: Global, seconds: i32) -> Display
     requires { IsWithin 86_340 seconds }
     ensures { display_said result ≡ ZoneSaid.Always seconds }
 {
     let offset = Offset::from_seconds(i64::from(seconds)).unwrap();
     Display {
-        zone: JiffZone::Fixed(offset),
+        zone: LearnedZone::new(alloc, JiffZone::Fixed(offset)),
     }
 }
 

@@ -80,6 +80,22 @@ impl JiffZone {
         instant.as_second()
     }
 
+    /// The offset that the zone says of an instant is the one that jiff gives. Nothing is done.
+    pub fn gives(&self, moment: Moment)
+        ensures { IsOffsetIn (jiff_said self.now) moment (said_offset (jiff_said self.now) moment) }
+    {
+        self.zone();
+    }
+
+    /// The instant that the zone says of a local is the one that jiff's compatible strategy picks. Nothing is done.
+    pub fn picks(&self, local: Local)
+        requires { IsDay local.day }
+        ensures { IsMomentIn (jiff_said self.now) (seconds_at local.day local.second) (said_moment (jiff_said self.now) (seconds_at local.day local.second)) }
+    {
+        self.zone();
+        datetime(local);
+    }
+
     /// Two offsets between which all others lie.
     pub fn bounds(&self) -> Bounds
         ensures { HasBounds (said_offset (jiff_said self.now)) (said_moment (jiff_said self.now)) result.least result.most }

@@ -16,6 +16,7 @@ mod jiff_zone;
 mod kept;
 mod latest;
 mod laws;
+mod learned_zone;
 mod near;
 mod observed;
 mod onset_laws;

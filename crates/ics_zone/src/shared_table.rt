@@ -15,6 +15,7 @@ use std::rc::Rc;
 pub(crate) struct SharedTable {
     table: Rc<Tzif>,
     bounds: Bounds,
+    alloc: Global,
 }
 
 impl Model for SharedTable {
@@ -38,7 +39,11 @@ impl SharedTable {
     {
         let bounds = Bounds::of_table(&table);
         match Rc::new(alloc, table) {
-            Ok(table) => Ok(SharedTable { table, bounds }),
+            Ok(table) => Ok(SharedTable {
+                table,
+                bounds,
+                alloc,
+            }),
             Err(_) => Err(AllocError),
         }
     }
@@ -50,6 +55,7 @@ impl SharedTable {
         Ok(SharedTable {
             table: self.table.clone()?,
             bounds: self.bounds,
+            alloc: self.alloc,
         })
     }
 
@@ -58,6 +64,11 @@ impl SharedTable {
         ensures { result.now ≡ self.now }
     {
         &self.table
+    }
+
+    /// Where the table is held.
+    pub fn alloc(&self) -> Global {
+        self.alloc
     }
 
     /// Two offsets between which all others lie.

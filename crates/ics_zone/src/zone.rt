@@ -7,7 +7,7 @@ ghost use Rattle.ics_zone.specs.Observances.{has_finer_rule, IsObservance};
 ghost use Rattle.ics_zone.specs.Seconds.{IsDay, IsMoment};
 ghost use Rattle.ics_fields.specs.Locals.{seconds_at};
 
-use crate::jiff_zone::JiffZone;
+use crate::learned_zone::LearnedZone;
 use crate::observed::Observed;
 use crate::shared_observed::SharedObserved;
 use crate::{Bounds, Place, Spans, Stretch, ZoneFault, ZoneFile, ZoneFileFault};
@@ -22,6 +22,9 @@ const STEP: i64 = 120 * 86_400;
 /// The greatest number of these instants. They span some twenty years.
 const STEPS: usize = 64;
 
+/// The greatest number of stretches that are found of a zone file, for each file that names it. Those of most zones span two hundred and fifty years.
+const MOST: usize = 512;
+
 /// A time zone: that of a VTIMEZONE (RFC 5545, section 3.6.5), or that of a zone file (RFC 9636). Contracts see its observances, or the table
 /// that jiff read from the file.
 #[derive(Drop)]
@@ -33,7 +36,7 @@ pub struct Zone {
 #[derive(Drop)]
 pub(crate) enum ZoneKind {
     ByObservances(SharedObserved),
-    ByJiff(JiffZone),
+    ByJiff(LearnedZone),
 }
 
 impl Model for Zone {
@@ -89,7 +92,7 @@ impl Zone {
         ensures { IfOk result (λ zone. zone_said zone ≡ ZoneSaid.ByFile file.now) }
     {
         Ok(Zone {
-            kind: ZoneKind::ByJiff(JiffZone::of_file(file)?),
+            kind: ZoneKind::ByJiff(LearnedZone::of_file(file)?),
         })
     }
 
@@ -152,14 +155,24 @@ impl Zone {
         }
     }
 
+    /// Takes note of instants between which the zone will be asked so often that a zone of a file is to find its stretches there. No answer changes.
+    pub fn note_often(&mut self, from: Moment, to: Moment)
+        ensures { self.new ≡ self.old }
+    {
+        match &mut self.kind {
+            ZoneKind::ByObservances(_) => {}
+            ZoneKind::ByJiff(zone) => zone.note_often(from, to),
+        }
+    }
+
     /// Makes answers for the locals that were noted faster and changes none: each is found once or, of many observances, the onsets near them are listed
-    /// once for all. Those for which no memory is found are answered as before.
+    /// once for all. A zone of a file finds the stretches between the instants that were noted. What finds no memory is asked for as before.
     pub fn learn(&mut self)
         ensures { self.new ≡ self.old }
     {
         match &mut self.kind {
             ZoneKind::ByObservances(observed) => observed.learn(),
-            ZoneKind::ByJiff(_) => {}
+            ZoneKind::ByJiff(zone) => zone.learn(MOST),
         }
     }
 
