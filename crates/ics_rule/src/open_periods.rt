@@ -16,8 +16,8 @@ use crate::rounds::{calendar_round, seconds_of};
 use crate::search::Search;
 use crate::walk::next_step;
 use ics_period::{
-    EffectiveRule, NearDays, lets, lets_date, listed_below, lists_days, period_of, skips_hours,
-    skips_minutes, skips_seconds,
+    EffectiveRule, NearDays, lets, lets_date, listed_below, lists_days, members_below, period_of,
+    skips_hours, skips_minutes, skips_seconds,
 };
 
 /// Whether the parts allow the hour, minute and second of a period, as far as the period has them; `n` is its first local.
@@ -58,8 +58,25 @@ fn steps_before(first: u64, interval: u32, number: u64) -> u64
     (number.saturating_sub(first) + (interval - 1)) / interval
 }
 
+/// Steps of fewer seconds leave a minute that is not allowed at its end.
+const A_SHORT_STEP: u64 = 512;
+
+/// Longer steps leave it so where the product of their seconds and the number of hours that are allowed is less.
+const A_LONG_LEAP: u64 = 23_000;
+
+/// Whether it is sooner done to leave minutes that are not allowed at their end than to test each step in them.
+fn leaves_minutes(parts: &EffectiveRule) -> bool {
+    let interval = u64::from(parts.interval);
+    if interval < A_SHORT_STEP {
+        return true;
+    }
+    !parts.hours.is_empty()
+        && interval < A_LONG_LEAP
+        && interval * members_below(&parts.hours, 24) < A_LONG_LEAP
+}
+
 /// How many steps from one period on and before another have an hour, minute and second that are allowed, whatever their days are. A minute that is
-/// not allowed is left at its end.
+/// not allowed is left at its end, where that is sooner done.
 pub(crate) fn steps_let_in(search: &Search<'_>, from: u64, before: u64) -> u64
     requires order { from ≤ before }
     requires before { before < 2 ^ 40 }
@@ -72,13 +89,14 @@ pub(crate) fn steps_let_in(search: &Search<'_>, from: u64, before: u64) -> u64
             - steps_before(search.first, parts.interval, from);
     }
     let unit = seconds_of(parts.frequency);
+    let leaves = leaves_minutes(parts);
     let mut total = 0;
     let mut number = next_step(search.first, parts.interval, from);
     while number < before {
         if lets_own(parts, number * unit) {
             total += 1;
             number += parts.interval as u64;
-        } else if unit == 1 && is_closed_minute(parts, number) {
+        } else if unit == 1 && leaves && is_closed_minute(parts, number) {
             let closed = (next_open_second(parts, number) - number).max(1);
             number = next_step(search.first, parts.interval, number + closed);
         } else {
