@@ -1,5 +1,5 @@
 //! A rule with the locals that searches of it have found, so that a later search need not make it, nor look for them, again.
-ghost use Rattle.std.specs.Prelude.{◌≡◌, ◌<◌, ◌≤◌, Some, MatchOption, IfSome, slice_get};
+ghost use Rattle.std.specs.Prelude.{◌≡◌, ◌<◌, ◌≤◌, Some, MatchOption, IfOk, IfSome, slice_get};
 ghost use Rattle.std.specs.Option.{option_map};
 ghost use Rattle.ics_fields.specs.Days.{IsDayNumber};
 ghost use Rattle.ics_fields.specs.Locals.{number};
@@ -15,11 +15,12 @@ ghost use Rattle.ics_starts.specs.Starts.{recurrence_of};
 use crate::kind::kind_of;
 use crate::lasting::day_of;
 use crate::placed_cursor::PlacedCursor;
+use crate::shared_rule::SharedRule;
 use ics_event::{Event, Length, Rdate, Time};
 use ics_listing::local_of;
 use ics_rule::{Cursor, Rule};
 use ics_values::Local;
-use std::alloc::Global;
+use std::alloc::{AllocError, Global};
 use std::mem;
 
 /// At most so many finds are kept.
@@ -44,7 +45,7 @@ pub struct KeptLocals<'a> {
     event: &'a Event,
     /// Where its owner keeps them.
     place: usize,
-    rule: Rule,
+    rule: SharedRule,
     /// Whether the event lasts so long that finds are worth their place.
     keeps: bool,
     /// What the searches before have found, in the order of the locals.
@@ -171,7 +172,7 @@ impl<'a> KeptLocals<'a> {
             KeptLocals {
                 event,
                 place,
-                rule,
+                rule: SharedRule::new(alloc, rule).ok()?,
                 keeps: is_long(event),
                 known: Vec::new(alloc),
                 at: 0,
@@ -189,11 +190,11 @@ impl<'a> KeptLocals<'a> {
         self.event
     }
 
-    /// Its rule.
-    pub(crate) fn rule(&self) -> Rule
-        ensures { recurrence_of self.now.event.now ≡ Some result }
+    /// Its rule, in the same memory.
+    pub(crate) fn rule(&self) -> Result<SharedRule, AllocError>
+        ensures { IfOk result (λ rule. recurrence_of self.now.event.now ≡ Some rule) }
     {
-        self.rule
+        self.rule.share()
     }
 
     /// Where its owner keeps them.
@@ -259,7 +260,7 @@ impl<'a> KeptLocals<'a> {
         ensures event { self.new.event ≡ self.old.event }
         ensures step { IsStep self.old.rule end result cursor.old.cursor cursor.new.cursor }
     {
-        cursor.pass(&self.rule, find.to.min(end));
+        cursor.pass(self.rule.get(), find.to.min(end));
         if end < find.to {
             return None;
         }
@@ -283,7 +284,7 @@ impl<'a> KeptLocals<'a> {
                 return self.count(cursor, counting, end);
             }
         }
-        let local = cursor.next(&self.rule, end);
+        let local = cursor.next(self.rule.get(), end);
         let find = Find {
             from,
             to: cursor.place,
@@ -309,8 +310,8 @@ impl<'a> KeptLocals<'a> {
         ensures step { IsStep self.old.rule end result cursor.old.cursor cursor.new.cursor }
     {
         let from = cursor.place;
-        counting.pass(&self.rule, from);
-        let local = counting.next(&self.rule, end);
+        counting.pass(self.rule.get(), from);
+        let local = counting.next(self.rule.get(), end);
         *cursor = counting;
         self.counting = Some(counting);
         let find = Find {

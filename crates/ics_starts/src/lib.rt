@@ -17,6 +17,7 @@ mod placed_cursor;
 mod replaced;
 mod rule_starts;
 mod series;
+mod shared_rule;
 mod single;
 mod single_events;
 mod starts;

@@ -28,6 +28,7 @@ use crate::instants::{bounds, instant_in, is_in, no_stretch, stretch, stretch_by
 use crate::kept_locals::{KeptLocals, ended, known_next, leave, next};
 use crate::listed::lesser_past;
 use crate::mark::{Mark, Quiet, begun};
+use crate::shared_rule::SharedRule;
 use crate::starts::{end_nearby, is_until};
 use crate::zones::FileZones;
 use ics_event::{Event, Time};
@@ -59,7 +60,7 @@ pub(crate) struct RuleStarts<'a> {
     zones: FileZones<'a>,
     event: &'a Event,
     window: Window,
-    rule: Rule,
+    rule: SharedRule,
     /// What is known of the rule by the searches of the days before.
     kept: Option<Box<KeptLocals<'a>>>,
     /// Two offsets between which the clock of DTSTART stays.
@@ -237,7 +238,7 @@ impl<'a> RuleStarts<'a> {
         zones: FileZones<'a>,
         event: &'a Event,
         window: Window,
-        rule: Rule,
+        rule: SharedRule,
         from: Local,
         mark: Option<Mark>,
         kept: Option<Box<KeptLocals<'a>>>,
@@ -256,9 +257,14 @@ impl<'a> RuleStarts<'a> {
         ensures begun { IsBegun result.rule result.from result.cursor }
     {
         let bounds = bounds(zones, event.start);
-        let end = end_nearby(&window, rule.until_moment(), event.start.stamp, bounds.most);
+        let end = end_nearby(
+            &window,
+            rule.get().until_moment(),
+            event.start.stamp,
+            bounds.most,
+        );
         let day = from.day.min(end);
-        let begun = begun(&rule, from, end, mark);
+        let begun = begun(rule.get(), from, end, mark);
         let next = Local::at(day, 0).seconds();
         RuleStarts {
             zones,
@@ -355,7 +361,7 @@ impl<'a> RuleStarts<'a> {
         let to = Local::at(bound, 0);
         // The cursor moves only once its local is held, so that none is lost.
         let mut cursor = self.cursor;
-        match next(&mut self.kept, &mut cursor, self.place, &self.rule, to) {
+        match next(&mut self.kept, &mut cursor, self.place, self.rule.get(), to) {
             None => {
                 let midnight = to.seconds();
                 self.cursor = cursor;
@@ -380,7 +386,7 @@ impl<'a> RuleStarts<'a> {
                 let time = time_at(event.start, local);
                 let moment = instant_in(self.zones, self.stretch, time);
                 let waiting = Waiting { moment, local };
-                hold(&mut self.held, event, &self.rule, self.window, waiting)?;
+                hold(&mut self.held, event, self.rule.get(), self.window, waiting)?;
                 self.cursor = cursor;
                 self.place = local.number() + 1;
                 self.day = local.day;
@@ -418,7 +424,7 @@ impl<'a> RuleStarts<'a> {
         let past = self.past_end();
         let last = past.min(end);
         if self.next < last {
-            self.cursor.pass(&self.rule, Local::of_seconds(last));
+            self.cursor.pass(self.rule.get(), Local::of_seconds(last));
             self.place = self.place.max((last + EPOCH) as u64);
             self.next = last;
         }
@@ -490,7 +496,7 @@ impl<'a> RuleStarts<'a> {
         let end = self.end_before(self.window.to);
         let last = to.min(end);
         if self.next < last {
-            self.cursor.pass(&self.rule, Local::of_seconds(last));
+            self.cursor.pass(self.rule.get(), Local::of_seconds(last));
             self.place = self.place.max((last + EPOCH) as u64);
             self.next = last;
         }
@@ -562,7 +568,7 @@ impl<'a> RuleStarts<'a> {
         ensures removed { AreTakenOut exclusions.now.instants.items exclusions.now.days.items self.old from result }
         ensures same { HasStayed self.old self.new }
     {
-        match known_next(&mut self.kept, &self.rule, (from + EPOCH) as u64) {
+        match known_next(&mut self.kept, self.rule.get(), (from + EPOCH) as u64) {
             None => self.removed_days(exclusions, from),
             Some(local) => {
                 if self.end <= local.day {
@@ -684,14 +690,14 @@ impl<'a> RuleStarts<'a> {
         ensures to { AreQuiet (clocks_in self.now.zones) self.now.event.now self.now.rule self.now.window (number self.now.from) result.to }
         ensures mark { MatchOption result.mark (Unit {0}) (IsCountMark self.now.rule) }
     {
-        match self.rule.until_moment() {
+        match self.rule.get().until_moment() {
             Some(until) if until < self.window.to => Quiet {
                 to: Moment::MAX,
                 mark: None,
             },
             _ => {
                 let mut cursor = self.cursor;
-                let next = cursor.quiet(&self.rule);
+                let next = cursor.quiet(self.rule.get());
                 let settled = self.settled_at(next);
                 // They are after a settled instant.
                 let after = settled + 1;

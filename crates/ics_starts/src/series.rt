@@ -44,6 +44,7 @@ use crate::mark::{Mark, Quiet, counted};
 use crate::occurrence::met_by;
 use crate::replaced::Replaced;
 use crate::rule_starts::RuleStarts;
+use crate::shared_rule::SharedRule;
 use crate::starts::{earliest, first_given, first_met, first_nearby, seconds_back, start_at};
 use crate::zones::FileZones;
 use ics_event::Event;
@@ -118,16 +119,22 @@ fn listed_apart(
 }
 
 /// The rule of an event, which has these parts: the one that is kept, if there is one.
-fn rule_of(event: &Event, parts: &Parts, kept: &Option<Box<KeptLocals<'_>>>) -> Rule
+fn rule_of(
+    alloc: Global,
+    event: &Event,
+    parts: &Parts,
+    kept: &Option<Box<KeptLocals<'_>>>,
+) -> Result<SharedRule, AllocError>
     requires parts { event.now.rule ≡ Some parts.now }
     requires day { IsDayNumber (local_of event.now.start.stamp).day }
     requires kept { IsKeptOf event.now kept.now }
-    ensures { recurrence_of event.now ≡ Some result }
+    ensures { IfOk result (λ rule. recurrence_of event.now ≡ Some rule) }
 {
     match kept {
         None => {
             let first = local_of(event.start.stamp);
-            Rule::new(*parts, first, kind_of(event.start.stamp))
+            let rule = Rule::new(*parts, first, kind_of(event.start.stamp));
+            SharedRule::new(alloc, rule)
         }
         Some(kept) => kept.rule(),
     }
@@ -145,7 +152,7 @@ fn starts_by_rule<'a>(
     listed: &[Start],
     mark: Option<Mark>,
     kept: Option<Box<KeptLocals<'a>>>,
-) -> Option<RuleStarts<'a>>
+) -> Result<Option<RuleStarts<'a>>, AllocError>
     requires event { IsOwnEvent zones event.now }
     requires met { met ≡ first_met (clocks_in zones) window event.now }
     requires late { (occurrence_first -ℤ lasts_most) ≤ℤ met }
@@ -153,15 +160,19 @@ fn starts_by_rule<'a>(
     requires listed { All (IsStartIn zones) listed.now }
     requires mark { IsMarkOf event.now mark }
     requires kept { IsKeptOf event.now kept }
-    ensures own { HasOwnRule zones.entry event.entry.now window (first_asked (clocks_in zones.entry) window event.entry.now since listed.entry.now) result }
-    ensures from { MatchOption result (event.entry.now.rule ≡ None)
-        (λ starts. IsRuleFrom (clocks_in zones.entry) event.entry.now window since listed.entry.now (starts_left starts)) }
-    ensures begun { MatchOption result (Unit {0}) (λ starts. IsBegun starts.rule starts.from starts.cursor) }
+    ensures own { IfOk result (HasOwnRule zones.entry event.entry.now window
+        (first_asked (clocks_in zones.entry) window event.entry.now since listed.entry.now)) }
+    ensures from { IfOk result (λ given. MatchOption given (event.entry.now.rule ≡ None)
+        (λ starts. IsRuleFrom (clocks_in zones.entry) event.entry.now window since listed.entry.now (starts_left starts))) }
+    ensures begun { IfOk result (λ given. MatchOption given (Unit {0}) (λ starts. IsBegun starts.rule starts.from starts.cursor)) }
 {
-    let parts = event.rule.as_ref()?.parts();
+    let Some(value) = &event.rule else {
+        return Ok(None);
+    };
+    let parts = value.parts();
     let first = local_of(event.start.stamp);
     let counts = parts.count.is_some();
-    let rule = rule_of(event, parts, &kept);
+    let rule = rule_of(alloc, event, parts, &kept)?;
     let bounds = bounds(zones, event.start);
     let earliest = earliest(zones, event, &window, met, listed);
     // All instants this late after the window's end are treated as one: no day is read for them.
@@ -174,7 +185,7 @@ fn starts_by_rule<'a>(
         earliest.max(since.min(late)),
     );
     let mark = counted(counts, mark);
-    Some(RuleStarts::new(alloc, zones, event, window, rule, from, mark, kept))
+    Ok(Some(RuleStarts::new(alloc, zones, event, window, rule, from, mark, kept)))
 }
 
 /// Reads up to the next local of a rule, if the first of the starts that it still gives is not known. Whether it was not.
@@ -361,7 +372,7 @@ impl<'a> Series<'a> {
         let exclusions = Exclusions::new(alloc, zones, &mut known, event, &window, from, running)?;
         let rule_starts = starts_by_rule(
             alloc, zones, event, window, since, met, &listed, mark, kept,
-        );
+        )?;
         Ok(Series {
             zones,
             event,

@@ -62,6 +62,13 @@ seconds_back-requires c =
       order = omega (arith, ints, apart.0);
     }
 
+pub first_nearby-from-requires-clause-first : goal.first_nearby-from-requires-clause-first
+first_nearby-from-requires-clause-first c =
+    let start = c.args.event.now.start in
+    let local : c.local_of-first.result ≡ local_of c.args.event.now.start.stamp =
+    c.local_of-first.ensures ∙ ap (λ (v : Event). local_of v.start.stamp) c.event.view_is in
+    rw local (calendar-day (local_of c.args.event.now.start.stamp).day (own-day start c.requires.event.start.is_time))
+
 pub first_nearby-from-requires-clause-late : goal.first_nearby-from-requires-clause-late
 first_nearby-from-requires-clause-late c =
     let max = c.max in
@@ -78,7 +85,7 @@ first_nearby-from-requires-clause-early c =
 
 pub new-requires-clause-mark : goal.new-requires-clause-mark
 new-requires-clause-mark c =
-    let has = c.rule_of-rule.ensures in
+    let has = c.in_ok-rule.ensures in
     marked c.args.event.now c.args.mark c.counted-mark.result has c.requires.mark (search rules)
     c.counted-mark.ensures
 
@@ -128,7 +135,7 @@ returns c =
         low = rw c.new.ensures.from (λ n on before. less-by (low n on before) ends.0);
       };
       from = record {
-        rule = c.rule_of-rule.result;
+        rule = c.in_ok-rule.rule;
         has = search rules;
         from = c.first_nearby-from.result;
         day = c.first_nearby-from.ensures.day;

@@ -6,7 +6,8 @@ use Rattle.ics_starts.proofs.kept_locals.KeptLocals.count.Goals as goal
 pub invariant_of-self : goal.invariant_of-self
 invariant_of-self c =
     let s = c.args.self.now in
-    let step = c.next-local.ensures.step in
+    let step = rw c.get-2.ensures at c.next-local.ensures.step in
+    let passed = rw c.get.ensures at c.pass.ensures.looked in
     let from : c.args.cursor.now.place ≡ place_of c.pass.new.self.cursor = sym c.pass.ensures.place ∙ c.pass.new.self.placed in
     let find = found-placed s.rule c.next-local.result from c.next-local.new.self.placed step.found in
     let begun = c.args.counting.placed in
@@ -18,14 +19,15 @@ invariant_of-self c =
         own = step.own;
         looked = λ from_local b l.
             step.looked from_local b l
-            (c.pass.ensures.looked _ b (c.requires.counting.looked from_local b (omega (arith, l, step.later, from, begun, c.requires.behind))));
+            (passed _ b (c.requires.counting.looked from_local b (omega (arith, l, step.later, from, begun, c.requires.behind))));
       };
     }
 
 pub returns-clause-step : goal.returns-clause-step
 returns-clause-step c =
     let s = c.args.self.now in
-    let step = c.next-local.ensures.step in
+    let step = rw c.get-2.ensures at c.next-local.ensures.step in
+    let passed = rw c.get.ensures at c.pass.ensures.looked in
     let from : c.args.cursor.now.place ≡ place_of c.pass.new.self.cursor = sym c.pass.ensures.place ∙ c.pass.new.self.placed in
     let begun = c.args.counting.placed in
     let placed = sym c.args.cursor.now.placed ∙ from in
@@ -36,5 +38,5 @@ returns-clause-step c =
       own = step.own;
       looked = λ from_local b l h.
           step.looked from_local b l
-          (c.pass.ensures.looked _ b (c.requires.counting.looked from_local b (omega (arith, l, step.later, from, begun, c.requires.behind))));
+          (passed _ b (c.requires.counting.looked from_local b (omega (arith, l, step.later, from, begun, c.requires.behind))));
     }

@@ -10,12 +10,13 @@ use Rattle.ics_starts.proofs.kept_locals.KeptLocals.new.Goals.{in-None, in-Some}
 pub invariant_of-new : goal.invariant_of-new
 invariant_of-new c =
     let rule = c.new-rule.result in
+    let shared : c.in_ok-ok.field-0 ≡ c.new-rule.result = search rules in
     let has : recurrence_of c.args.event.now ≡ Some c.new-rule.result = search rules in
     record {
-      of = has;
-      known_are = subst (AreFinds rule) (sym c.new.ensures.items) tt;
-      found_are = subst (AreFinds rule) (sym c.new-2.ensures.items) tt;
-      counts = elim c.match-parts.branch [
+      of = rw shared has;
+      known_are = subst (AreFinds c.in_ok-ok.field-0) (sym c.new-2.ensures.items) tt;
+      found_are = subst (AreFinds c.in_ok-ok.field-0) (sym c.new-3.ensures.items) tt;
+      counts = rw shared (elim c.match-parts.branch [
         | in-None w ↦ subst (HasCounting rule) (sym w.counting-is) tt
         | in-Some w ↦ subst (HasCounting rule) (sym w.counting-is) (record {
           own = w.at.ensures.own;
@@ -24,5 +25,5 @@ invariant_of-new c =
               subst (λ a. HasLooked rule w.at.result a b)
               (looks-counted rule.parts.count (number rule.start) (number c.local_of-first.result) from counts) (w.at.ensures.looked b);
         })
-      ];
+      ]);
     }

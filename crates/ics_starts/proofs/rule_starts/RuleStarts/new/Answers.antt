@@ -70,13 +70,15 @@ pub invariant_of-result : goal.invariant_of-result
 invariant_of-result c =
     let w = c.args.window in
     let e = c.end_nearby-end.ensures in
-    let ends = ends-same w c.until_moment.ensures c.event.view_is in
+    let until = rw c.get.ensures at c.until_moment.ensures in
+    let begun = rw c.get-2.ensures at c.begun-begun.ensures.begun in
+    let ends = ends-same w until c.event.view_is in
     let off = ap (λ (v : Event). seconds_off v.start.stamp) c.event.view_is in
     let most = end-of-window w c.until_moment.result c.end_nearby-end.result c.event.view_is e.soon in
-    let firsts = first-same w c.until_moment.ensures c.event.view_is in
+    let firsts = first-same w until c.event.view_is in
     let min = c.min-day.ensures.value in
-    let place = c.begun-begun.ensures.begun.place in
-    let begun = c.requires.from in
+    let place = begun.place in
+    let day-from = c.requires.from in
     let end = day-back c.end_nearby-end.result e.day in
     let from = day-back c.args.from.day c.requires.from in
     let day = signed-back c.min-day.result c.min-day.result c.min-day.type_inv refl in
@@ -98,16 +100,16 @@ invariant_of-result c =
       rises = subst (Rises moment_cmp) (sym (ap (map (start_of c.args.event.now.start)) c.new.ensures)) tt;
       are = λ s m. absurd (subst (IsIn s) (ap (map (start_of c.args.event.now.start)) c.new.ensures) m);
       past_end = subst (λ place. AreBeyond (clocks_in c.args.zones) c.args.event.now c.args.rule w (number c.args.from) place _)
-          (sym c.begun-begun.ensures.begun.place) (beyond-begun (clocks_in c.args.zones) c.args.event.now c.args.rule w (number c.args.from) _);
+          (sym place) (beyond-begun (clocks_in c.args.zones) c.args.event.now c.args.rule w (number c.args.from) _);
       stretched = c.no_stretch.ensures _;
       spanned = ∣ tt ∣₁;
-      own = c.begun-begun.ensures.begun.own;
-      looked = subst (λ d. HasLookedTo c.args.rule c.args.from d c.begun-begun.result) (sym asked) c.begun-begun.ensures.looked;
-      placed = c.number.ensures.value ∙ sym c.begun-begun.ensures.begun.place;
+      own = begun.own;
+      looked = subst (λ d. HasLookedTo c.args.rule c.args.from d c.begun-begun.result) (sym asked) (rw c.get-2.ensures at c.begun-begun.ensures.looked);
+      placed = c.number.ensures.value ∙ sym place;
       known = c.requires.kept;
       reached = record {
-        read = omega (arith, ints, place, day, end, from, min, int_min_is, begun.0, begun.1, e.day.0, e.day.1);
-        next_read = omega (arith, ints, place, day, end, from, min, int_min_is, begun.0, begun.1, e.day.0, e.day.1, next);
+        read = omega (arith, ints, place, day, end, from, min, int_min_is, day-from.0, day-from.1, e.day.0, e.day.1);
+        next_read = omega (arith, ints, place, day, end, from, min, int_min_is, day-from.0, day-from.1, e.day.0, e.day.1, next);
         next_on = omega (arith, ints, next);
         low = omega (arith, ints, day, end, from, min, int_min_is, c.requires.from.0, e.day.0);
         on = omega (arith, ints, day);
@@ -118,7 +120,7 @@ invariant_of-result c =
     }
 
 pub returns-clause-begun : goal.returns-clause-begun
-returns-clause-begun c = c.begun-begun.ensures.begun
+returns-clause-begun c = rw c.get-2.ensures at c.begun-begun.ensures.begun
 
 pub returns-clause-left : goal.returns-clause-left
 returns-clause-left c =

@@ -71,8 +71,8 @@ invariant_of-self c =
       past_end = beyond-past s (λ n l u. (past.ensures n l (omega (arith, ints, l, u, place, at, seconds, before))).second);
       stretched = s.stretched;
       spanned = s.spanned;
-      own = c.pass.ensures.own;
-      looked = λ before m. c.pass.ensures.looked _ before (s.looked before m);
+      own = rw c.get.ensures at c.pass.ensures.own;
+      looked = λ before m. (rw c.get.ensures at c.pass.ensures.looked) _ before (s.looked before m);
       placed = omega (arith, ints, s.placed, place, at, seconds, c.max-self.ensures);
       known = s.known;
       reached = record {
@@ -97,7 +97,7 @@ returns-then-self-last c =
     let before : to_z w64 (of_z w64 c.min-last.result) ≤ℤ c.past_end-past.result =
     omega (arith, ints, int_min_is, last.ensures.value, last.type_inv, past.type_inv) in
     let early : to_z w64 (of_z w64 c.min-last.result) ≤ℤ midnight s.end =
-    omega (arith, ints, int_min_is c.past_end-past.result c.seconds-end.result, last.ensures.value, last.type_inv, end) in
+    omega (arith, ints, int_min_is c.past_end-past.result c.seconds-end.result, last.ensures.value, last.type_inv, end, end-days s) in
     let at = number-seconds c.of_seconds.result (ended-day s later early c.of_seconds.ensures.day) in
     let seconds : local_seconds c.of_seconds.result ≡ to_z w64 (of_z w64 c.min-last.result) = c.of_seconds.ensures.value in
     let place = c.pass.ensures.place in

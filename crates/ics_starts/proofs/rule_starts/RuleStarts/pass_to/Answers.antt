@@ -73,8 +73,8 @@ invariant_of-self c =
           omega (arith, ints, moment, window-back s));
       stretched = s.stretched;
       spanned = s.spanned;
-      own = c.pass.ensures.own;
-      looked = λ before m. c.pass.ensures.looked _ before (s.looked before m);
+      own = rw c.get.ensures at c.pass.ensures.own;
+      looked = λ before m. (rw c.get.ensures at c.pass.ensures.looked) _ before (s.looked before m);
       placed = c.max-self.ensures ∙ ((λ i. max (s.placed i) (number-back (to_z w64 (of_z w64 c.min-last.result)) (number c.of_seconds.result) low high there i))
           ∙ sym place);
       known = s.known;

@@ -6,7 +6,7 @@ use Rattle.ics_starts.proofs.rule_starts.RuleStarts.quiet.Goals as goal
 pub returns-in-Some-clause-to : goal.returns-in-Some-clause-to
 returns-in-Some-clause-to c =
     let s = c.args.self.now in
-    quiet-ended s _ (sym c.until_moment.ensures ∙ c.in-Some.is)
+    quiet-ended s _ (sym (rw c.get.ensures at c.until_moment.ensures) ∙ c.in-Some.is)
     (omega (arith, ints, c.if-until-self.true, s.window.ordered, s.window.not_early, s.window.not_late))
 
 pub overflow_add-after : goal.overflow_add-after
@@ -20,8 +20,9 @@ returns-in_default-clause-to c =
     let least : SFits w64 c.args.self.now.beyond = search rules in
     let settles : SFits w64 c.settled_at-settled.result = search rules in
     let near = c.settled_at-settled.ensures.near in
-    quiet-by s c.quiet-next.result c.quiet-next.ensures.none (omega (arith, ints, int_min_is, c.min-to.ensures))
+    quiet-by s c.quiet-next.result (rw c.get-in_default.ensures at c.quiet-next.ensures.none) (omega (arith, ints, int_min_is, c.min-to.ensures))
     (omega (arith, ints, int_min_is, c.min-to.ensures, near)) c.settled_at-settled.ensures.after
 
 pub mark_before-requires-clause-looked : goal.mark_before-requires-clause-looked
-mark_before-requires-clause-looked c = λ before h. c.quiet-next.ensures.looked _ before (c.args.self.now.looked before h)
+mark_before-requires-clause-looked c = λ before h.
+    (rw c.get-in_default.ensures at c.quiet-next.ensures.looked) _ before (c.args.self.now.looked before h)

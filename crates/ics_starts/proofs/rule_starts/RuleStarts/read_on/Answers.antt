@@ -46,7 +46,7 @@ invariant_of-self-in-Break-1 c =
 pub next-requires-clause-kept : goal.next-requires-clause-kept
 next-requires-clause-kept c =
     let s = c.args.self.now in
-    kept-rule s.event.now s.rule s.kept s.rule_of.of s.known
+    rw c.get.ensures (kept-rule s.event.now s.rule s.kept s.rule_of.of s.known)
 
 pub next-requires-clause-place : goal.next-requires-clause-place
 next-requires-clause-place c = c.args.self.now.placed
@@ -63,19 +63,20 @@ next-requires-clause-early c =
 
 pub invariant_of-self : goal.invariant_of-self
 invariant_of-self c =
+    let answer = rw c.get.ensures at c.in-None.ensures.next in
     let s = c.args.self.now in
     let b = c.bound-bound in
-    let r = none-read s b.type_inv b.ensures.later b.ensures.within c.at-to.ensures b.ensures.held c.in-None.ensures.next c.seconds-midnight.ensures in
+    let r = none-read s b.type_inv b.ensures.later b.ensures.within c.at-to.ensures b.ensures.held answer c.seconds-midnight.ensures in
     record {
       rule_of = s.rule_of;
       rises = r.rises;
       are = r.are;
-      past_end = beyond-none s c.in-None.ensures.next;
+      past_end = beyond-none s answer;
       stretched = s.stretched;
       spanned = s.spanned;
-      own = c.in-None.ensures.own;
+      own = rw c.get.ensures at c.in-None.ensures.own;
       looked = λ before m.
-          c.in-None.ensures.looked (number s.from) before (omega (arith, r.before, m)) (s.looked before (omega (arith, r.before, m)));
+          (rw c.get.ensures at c.in-None.ensures.looked) (number s.from) before (omega (arith, r.before, m)) (s.looked before (omega (arith, r.before, m)));
       placed = omega (arith, s.placed, c.in-None.ensures.next.1, c.number.ensures.value, c.max-self.ensures);
       known = kept-same s.event.now s.kept _ c.next.ensures.same s.known;
       reached = r.reached;
@@ -113,10 +114,11 @@ stretch_at-self-requires-clause-time c =
 
 pub stretch_at-self-requires-clause-local : goal.stretch_at-self-requires-clause-local
 stretch_at-self-requires-clause-local c =
+    let answer = rw c.get.ensures at c.in-Some.ensures.next in
     let b = c.bound-bound in
     let fits : SFits w64 c.seconds-seconds.result = search rules in
     let years =
-    one-moment c.args.self.now b.type_inv b.ensures.later b.ensures.within c.at-to.ensures c.in-Some.local c.in-Some.ensures.day c.in-Some.ensures.next in
+    one-moment c.args.self.now b.type_inv b.ensures.later b.ensures.within c.at-to.ensures c.in-Some.local c.in-Some.ensures.day answer in
     (omega (arith, ints, c.seconds-seconds.ensures, years), omega (arith, ints, c.seconds-seconds.ensures, years))
 
 pub stretch_at-self-requires-clause-known : goal.stretch_at-self-requires-clause-known
@@ -139,33 +141,36 @@ instant_in-moment-requires-clause-stretch c =
 
 pub instant_in-moment-requires-clause-time : goal.instant_in-moment-requires-clause-time
 instant_in-moment-requires-clause-time c =
+    let answer = rw c.get.ensures at c.in-Some.ensures.next in
     let s = c.args.self.now in
     let b = c.bound-bound in
     let is = c.time_at-time.ensures ∙ ap (λ (v : Event). time_at v.start c.in-Some.local) c.event.view_is in
     subst (λ (t : Time). IsTimeOf s.zones.zones.now t) (sym is)
-    (one-time c.args.self.now b.type_inv b.ensures.later b.ensures.within c.at-to.ensures c.in-Some.local c.in-Some.ensures.day c.in-Some.ensures.next)
+    (one-time c.args.self.now b.type_inv b.ensures.later b.ensures.within c.at-to.ensures c.in-Some.local c.in-Some.ensures.day answer)
 
 pub invariant_of-self-in-Some : goal.invariant_of-self-in-Some
 invariant_of-self-in-Some c =
+    let answer = rw c.get.ensures at c.in-Some.ensures.next in
+    let held = rw c.get-in-Some.ensures at c.in_ok-hold-in-Some.ensures.held in
     let s = c.args.self.now in
     let b = c.bound-bound in
     let told : SFits w64 c.instant_in-moment.result = search rules in
     let is = c.time_at-time.ensures ∙ ap (λ (v : Event). time_at v.start c.in-Some.local) c.event.view_is in
     let moment = c.instant_in-moment.ensures ∙ ap (instant (clocks_in s.zones)) is in
     let r = one-read s b.type_inv b.ensures.later b.ensures.within c.at-to.ensures c.in-Some.local c.in-Some.ensures.day
-    c.in-Some.ensures.next b.ensures.held (c.in_ok-hold-in-Some.ensures.held (clocks_in s.zones) (omega (arith, ints, moment))) c.seconds-seconds.ensures in
+    answer b.ensures.held (held (clocks_in s.zones) (omega (arith, ints, moment))) c.seconds-seconds.ensures in
     let fits : SFits w64 c.lesser_past-self.result = search rules in
     record {
       rule_of = s.rule_of;
       rises = r.rises;
       are = r.are;
-      past_end = beyond-one s c.in-Some.local c.in-Some.ensures.next c.in-Some.ensures.day (omega (arith, ints, c.lesser_past-self.ensures.first))
+      past_end = beyond-one s c.in-Some.local answer c.in-Some.ensures.day (omega (arith, ints, c.lesser_past-self.ensures.first))
           (λ past. let late = c.lesser_past-self.ensures.second (omega (arith, ints, past, moment)) in omega (arith, ints, late, moment));
       stretched = told-known s c.event.view_is c.stretch_at-self.ensures.stretch;
       spanned = spans-known s _ c.event.view_is c.stretch_at-self.ensures.spans;
-      own = c.in-Some.ensures.own;
+      own = rw c.get.ensures at c.in-Some.ensures.own;
       looked = λ before m.
-          c.in-Some.ensures.looked (number s.from) before (omega (arith, r.before, m)) (s.looked before (omega (arith, r.before, m)));
+          (rw c.get.ensures at c.in-Some.ensures.looked) (number s.from) before (omega (arith, r.before, m)) (s.looked before (omega (arith, r.before, m)));
       placed = omega (arith, c.in-Some.ensures.next.1, c.number-in-Some.ensures.value);
       known = kept-same s.event.now s.kept _ c.next.ensures.same s.known;
       reached = r.reached;
@@ -174,18 +179,21 @@ invariant_of-self-in-Some c =
 
 pub returns-in-None : goal.returns-in-None
 returns-in-None c =
+    let answer = rw c.get.ensures at c.in-None.ensures.next in
     let b = c.bound-bound in
-    let r = none-read c.args.self.now b.type_inv b.ensures.later b.ensures.within c.at-to.ensures b.ensures.held c.in-None.ensures.next
+    let r = none-read c.args.self.now b.type_inv b.ensures.later b.ensures.within c.at-to.ensures b.ensures.held answer
     c.seconds-midnight.ensures in
     record { same = r.same; source = record { zones = refl; event = refl; window = refl; rule = refl; from = refl; end = refl }; less = r.less }
 
 pub returns-in_ok-hold-in-Some : goal.returns-in_ok-hold-in-Some
 returns-in_ok-hold-in-Some c =
+    let answer = rw c.get.ensures at c.in-Some.ensures.next in
+    let held = rw c.get-in-Some.ensures at c.in_ok-hold-in-Some.ensures.held in
     let s = c.args.self.now in
     let b = c.bound-bound in
     let told : SFits w64 c.instant_in-moment.result = search rules in
     let is = c.time_at-time.ensures ∙ ap (λ (v : Event). time_at v.start c.in-Some.local) c.event.view_is in
     let moment = c.instant_in-moment.ensures ∙ ap (instant (clocks_in s.zones)) is in
     let r = one-read s b.type_inv b.ensures.later b.ensures.within c.at-to.ensures c.in-Some.local c.in-Some.ensures.day
-    c.in-Some.ensures.next b.ensures.held (c.in_ok-hold-in-Some.ensures.held (clocks_in s.zones) (omega (arith, ints, moment))) c.seconds-seconds.ensures in
+    answer b.ensures.held (held (clocks_in s.zones) (omega (arith, ints, moment))) c.seconds-seconds.ensures in
     record { same = r.same; source = record { zones = refl; event = refl; window = refl; rule = refl; from = refl; end = refl }; less = r.less }

@@ -43,4 +43,4 @@ returns-else-to-seconds-clause-removed c = λ n l u.
     let place = place-back (to_z w64 (of_z w64 c.args.from)) (omega (arith, ints, same, years)) (omega (arith, ints, same, years))
     ∙ ap (λ at. at +ℤ pos 62_167_219_200) same in
     next-taken c.args.self.now c.args.exclusions.now.instants.items c.args.exclusions.now.days.items c.in-Some.local c.args.from
-    c.removed_at-to.result c.in-Some.ensures.next place c.removed_at-to.ensures.removed n l (omega (arith, ints, u))
+    c.removed_at-to.result (rw c.get.ensures at c.in-Some.ensures.next) place c.removed_at-to.ensures.removed n l (omega (arith, ints, u))

@@ -232,8 +232,8 @@ module _ (zones : FileZones) (w : Window) (event : Event) where
 pub running-requires-clause-known : goal.running-requires-clause-known
 running-requires-clause-known c = c.none-known.ensures (clocks_in c.args.zones)
 
-pub starts_by_rule-rule_starts-requires-clause-listed : goal.starts_by_rule-rule_starts-requires-clause-listed
-starts_by_rule-rule_starts-requires-clause-listed c =
+pub starts_by_rule-requires-clause-listed : goal.starts_by_rule-requires-clause-listed
+starts_by_rule-requires-clause-listed c =
     let event = c.args.event.now in
     λ k d l.
     let s : Start = get_or c.deref-2.result.now k d in
@@ -250,10 +250,10 @@ invariant_of-result c =
     let since : to_z w64 (of_z w64 c.args.since) ≡ c.args.since = omega (arith, ints) in
     let sound = c.requires.own.is_event in
     let firsts = rw c.in_ok-listed.ensures.starts at c.in_ok-new.ensures in
-    let ruled = rw (since, c.deref-2.ensures.value ∙ c.in_ok-listed.ensures.starts) at c.starts_by_rule-rule_starts.ensures.from in
-    let starts = starts-since c.args.zones w event sound c.args.since (listed_left c.in_ok-new.field-0) firsts c.starts_by_rule-rule_starts.result ruled in
+    let ruled = rw (since, c.deref-2.ensures.value ∙ c.in_ok-listed.ensures.starts) at c.in_ok-rule_starts.ensures.from in
+    let starts = starts-since c.args.zones w event sound c.args.since (listed_left c.in_ok-new.field-0) firsts c.in_ok-rule_starts.rule_starts ruled in
     let listing = series-listing clocks w event c.args.since c.args.replaced.instants.items
-    (left c.starts_by_rule-rule_starts.result c.in_ok-new.field-0) starts in
+    (left c.in_ok-rule_starts.rule_starts c.in_ok-new.field-0) starts in
     record {
       first_is = tt;
       own = c.requires.own;
@@ -262,10 +262,10 @@ invariant_of-result c =
       known = λ s m. start-in c.args.zones w event c.requires.own s (starts.are s m);
       listed_known = λ s m. start-in c.args.zones w event c.requires.own s (start-apart c.args.zones w event event.rule s (firsts.are s m));
       ruled = rw since
-          (has-ruled c.args.zones w event sound c.args.since c.args.replaced.instants.items c.starts_by_rule-rule_starts.result
-          (given_of clocks w event c.args.since c.args.replaced.instants.items (left c.starts_by_rule-rule_starts.result c.in_ok-new.field-0)) ruled listing);
+          (has-ruled c.args.zones w event sound c.args.since c.args.replaced.instants.items c.in_ok-rule_starts.rule_starts
+          (given_of clocks w event c.args.since c.args.replaced.instants.items (left c.in_ok-rule_starts.rule_starts c.in_ok-new.field-0)) ruled listing);
       own_rule = subst (λ xs. HasOwnRule c.args.zones event w (first_asked clocks w event (to_z w64 (of_z w64 c.args.since)) xs)
-          c.starts_by_rule-rule_starts.result) (c.deref-2.ensures.value ∙ c.in_ok-listed.ensures.starts) c.starts_by_rule-rule_starts.ensures.own;
+          c.in_ok-rule_starts.rule_starts) (c.deref-2.ensures.value ∙ c.in_ok-listed.ensures.starts) c.in_ok-rule_starts.ensures.own;
       rising = rw since listing.rises;
     }
 
@@ -278,11 +278,11 @@ returns c =
     let since : to_z w64 (of_z w64 c.args.since) ≡ c.args.since = omega (arith, ints) in
     let sound = c.requires.own.is_event in
     let firsts = rw c.in_ok-listed.ensures.starts at c.in_ok-new.ensures in
-    let ruled = rw (since, c.deref-2.ensures.value ∙ c.in_ok-listed.ensures.starts) at c.starts_by_rule-rule_starts.ensures.from in
-    let starts = starts-since c.args.zones w event sound c.args.since (listed_left c.in_ok-new.field-0) firsts c.starts_by_rule-rule_starts.result ruled in
+    let ruled = rw (since, c.deref-2.ensures.value ∙ c.in_ok-listed.ensures.starts) at c.in_ok-rule_starts.ensures.from in
+    let starts = starts-since c.args.zones w event sound c.args.since (listed_left c.in_ok-new.field-0) firsts c.in_ok-rule_starts.rule_starts ruled in
     record {
       listing = rw since
-          (series-listing clocks w event c.args.since c.args.replaced.instants.items (left c.starts_by_rule-rule_starts.result c.in_ok-new.field-0) starts);
+          (series-listing clocks w event c.args.since c.args.replaced.instants.items (left c.in_ok-rule_starts.rule_starts c.in_ok-new.field-0) starts);
       sources = ap (source_of clocks event w) since;
-      begun = c.starts_by_rule-rule_starts.ensures.begun;
+      begun = c.in_ok-rule_starts.ensures.begun;
     }
