@@ -1,6 +1,6 @@
--- What is known of the rules of masters, from day to day.
+-- The series of masters that rest from day to day.
 use Rattle.std.specs.Global.{Box}
-use Rattle.std.proofs.Common.{◌≡◌, ◌∙◌, ℕ, List, [], ◌∷◌, ◌++◌, Option, Some, None, sym, ap, subst}
+use Rattle.std.proofs.Common.{◌≡◌, ◌∙◌, ℕ, List, [], ◌∷◌, ◌++◌, Some, None, sym, ap}
 use Rattle.std.specs.List.{flat_map, AllByRecursion}
 use Rattle.std.proofs.Math.Logic.{∥∥₁_elim}
 use Rattle.ics_file.specs.File.{FileSaid}
@@ -8,16 +8,15 @@ use Rattle.ics_event.specs.declared.event.Event.{Event}
 use Rattle.ics_listing.specs.FeedSources.{Recurring, Source}
 use Rattle.ics_listing.specs.FileClocks.{Clock}
 use Rattle.ics_listing.proofs.ListingLemmas.{all-as}
-use Rattle.ics_starts.specs.KeptLocals.{IsKeptOf}
 use Rattle.ics_starts.specs.SeriesLaws.{event-set}
-use Rattle.ics_starts.specs.declared.kept_locals.KeptLocals.{KeptLocals}
+use Rattle.ics_starts.specs.declared.series.Series.{Series}
 use Rattle.ics_series.specs.AgendaParts.{part_sources}
 use Rattle.ics_series.specs.Chosen.{IsMaster, SubjectSeen}
-use Rattle.ics_series.specs.Inner.Kept.{IsEventOfMaster, IsKeptIn, IsPartOf}
+use Rattle.ics_series.specs.Inner.Kept.{IsKeptIn, IsPartOf, IsSeriesOf}
 use Rattle.ics_series.specs.PlacedEvents.{Placed}
 use Rattle.ics_series.specs.Sources.{recurring}
 use Rattle.ics_series.specs.declared.part.Part.{Part}
-use Rattle.ics_series.specs.declared.part.Part.TheVariants.{Singles, Series}
+use Rattle.ics_series.specs.declared.part.Part.TheVariants as part
 use Rattle.ics_series.proofs.AheadLemmas.{IsOfFolder}
 use Rattle.ics_series.proofs.OccursLemmas.{master-subject}
 use Rattle.ics_series.proofs.VersionLemmas.{one-chosen}
@@ -31,8 +30,8 @@ all-last (y ∷ xs) x P all = let rest = all-last xs x P all.1 in ((all.0, rest.
 module _ (IsKnown : Recurring → Type 0) where
   of-first : (p : Part) (rest : List Source) → AllByRecursion IsKnown (recurring (part_sources p ++ rest))
       → AllByRecursion IsKnown (recurring (part_sources p)) × AllByRecursion IsKnown (recurring rest)
-  of-first (Singles s) rest all = (tt, all)
-  of-first (Series s) rest all = ((all.0, tt), all.1)
+  of-first (part.Singles s) rest all = (tt, all)
+  of-first (part.Series s) rest all = ((all.0, tt), all.1)
 
   pub each-of : {L : Type 0} (feed : L → Part) (leads : List L) → AllByRecursion IsKnown (recurring (flat_map (λ l. part_sources (feed l)) leads))
       → AllByRecursion (λ l. AllByRecursion IsKnown (recurring (part_sources (feed l)))) leads
@@ -50,15 +49,15 @@ module _ (files : List FileSaid) (display : Clock) where
   one-master p q h k u = one-chosen h.chosen k.chosen (master-subject files display p h ∙ (ap sub u ∙ sym (master-subject files display q k)))
 
   -- so what is known of a master with an event's UID is known of that event
-  pub kept-own : (event : Event) (kept : Box KeptLocals) (by : Placed) → IsMaster files display by → by.event ≡ event
-      → IsKeptIn files display (Some kept) → kept.value.event.now.uid ≡ event.uid → IsKeptOf event (Some kept)
+  pub kept-own : (event : Event) (kept : Box Series) (by : Placed) → IsMaster files display by → by.event ≡ event
+      → IsKeptIn files display (Some kept) → kept.value.event.now.uid ≡ event.uid → IsSeriesOf event (Some kept)
   kept-own event kept by is e known uid = ∥∥₁_elim known (event-set kept.value.event.now event) (λ h.
       let same = one-master h.0 by h.1 is (sym (ap (λ (v : Event). v.uid) h.2) ∙ (uid ∙ sym (ap (λ (v : Event). v.uid) e))) in
       h.2 ∙ (ap (λ (p : Placed). p.event) same ∙ e))
 
   part-of : (p : Part) → AllByRecursion (IsOfFolder files display) (recurring (part_sources p)) → IsPartOf files display p
-  part-of (Singles s) all = tt
-  part-of (Series s) all = ∣ (all.0.by, all.0.is, ap (λ m. m.event) all.0.same) ∣₁
+  part-of (part.Singles s) all = tt
+  part-of (part.Series s) all = ∣ (all.0.by, all.0.is, ap (λ m. m.event) all.0.same) ∣₁
 
   -- the feeds of a day's agenda are parts of masters
   pub parts-of : {L : Type 0} (feed : L → Part) (leads : List L)
@@ -67,9 +66,3 @@ module _ (files : List FileSaid) (display : Clock) where
   parts-of feed leads all =
       all-as (λ l. AllByRecursion (IsOfFolder files display) (recurring (part_sources (feed l)))) (λ l. IsPartOf files display (feed l)) leads
       (λ l. part-of (feed l)) (each-of (IsOfFolder files display) feed leads all)
-
-  -- what a series that ended gives back
-  pub kept-of-series : (event : Event) (kept : Option (Box KeptLocals)) → IsEventOfMaster files display event → IsKeptOf event kept
-      → IsKeptIn files display kept
-  kept-of-series event None is of = tt
-  kept-of-series event (Some k) is of = subst (IsEventOfMaster files display) (sym of) is

@@ -34,7 +34,7 @@ use crate::version::{Subject, Version};
 use ics_days::{Span, all_places};
 use ics_file::FileEvents;
 use ics_listing::{Coming, Feed, Key, Lead, Merge, Occurrence, Window};
-use ics_starts::{KeptLocals, Mark};
+use ics_starts::{Mark, Series};
 use ics_values::Moment;
 use ics_zone::Display;
 use std::alloc::{AllocError, Global};
@@ -96,7 +96,7 @@ impl<'a> Agenda<'a> {
         near: &[usize],
         spans: &mut Vec<Span>,
         marks: &mut Vec<Option<Mark>>,
-        kept: &mut Vec<Option<Box<KeptLocals<'a>>>>,
+        kept: &mut Vec<Option<Box<Series<'a>>>>,
         window: Window,
         after: Option<&Key>,
         floor: Option<Moment>,

@@ -48,7 +48,7 @@ use ics_days::{
 };
 use ics_file::FileEvents;
 use ics_listing::{DayKey, Feed, Key, Occurrence, Window};
-use ics_starts::{KeptLocals, Mark, is_single};
+use ics_starts::{Mark, Series, is_single};
 use ics_values::{Local, Moment};
 use ics_zone::{Bounds, Display};
 use std::alloc::{AllocError, Global};
@@ -82,8 +82,8 @@ pub struct Days<'a> {
     places: NearPlaces,
     // Where the searches of the rules began near the day before.
     marks: Vec<Option<Mark>>,
-    // What the searches near the days before have found of the rules of events that last long.
-    kept: Vec<Option<Box<KeptLocals<'a>>>>,
+    // The series of the days before, which rest.
+    kept: Vec<Option<Box<Series<'a>>>>,
     today: Today<'a>,
     ghost chosen: { AreThoseChosen (map said_by files.now) (display_clock display.now) versions.items } by { those-chosen-prop (map said_by files.now)
         (display_clock display.now) versions.items },
@@ -199,7 +199,7 @@ impl<'a> Days<'a> {
         places: &mut NearPlaces,
         spans: &mut Vec<Span>,
         marks: &mut Vec<Option<Mark>>,
-        kept: &mut Vec<Option<Box<KeptLocals<'a>>>>,
+        kept: &mut Vec<Option<Box<Series<'a>>>>,
         window: &Window,
         bounds: Bounds,
         day: i32,

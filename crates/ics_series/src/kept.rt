@@ -1,26 +1,25 @@
-//! What is known of the rules of the versions that count, each at the place of its version.
+//! The series of masters that rest from one day to another, each at the place of its version.
 ghost use Rattle.std.specs.Prelude.{◌≡◌, true, List, Some};
 ghost use Rattle.std.specs.List.{AllByRecursion};
 ghost use Rattle.ics_file.specs.File.{FileSaid};
 ghost use Rattle.ics_listing.specs.FileClocks.{Clock};
 ghost use Rattle.ics_series.specs.Chosen.{IsMaster};
 ghost use Rattle.ics_series.specs.Inner.Ended.{AreMovedOff, IsOverPart};
-ghost use Rattle.ics_series.specs.Inner.Kept.{AreKept, IsKeptIn, IsPartOf};
+ghost use Rattle.ics_series.specs.Inner.Kept.{AreKept, IsKeptIn, IsPartOf, IsSeriesOf};
 ghost use Rattle.ics_series.specs.Inner.Marks.{StayMarks};
 ghost use Rattle.ics_series.specs.PlacedEvents.{Placed};
-ghost use Rattle.ics_starts.specs.KeptLocals.{IsKeptOf};
 
-use crate::part::Part;
+use crate::part::{Part, PlacedSeries};
 use crate::version::Version;
 use ics_days::Span;
 use ics_event::Event;
 use ics_listing::Lead;
-use ics_starts::{KeptLocals, Mark};
-use std::alloc::{AllocError, Global};
+use ics_starts::{Mark, Series};
+use std::alloc::AllocError;
 
-/// Makes places for it, at which nothing is known.
+/// Makes places for them, at which none rests.
 pub(crate) fn add_kept<'a>(
-    kept: &mut Vec<Option<Box<KeptLocals<'a>>>>,
+    kept: &mut Vec<Option<Box<Series<'a>>>>,
     count: usize,
 ) -> Result<(), AllocError>
     ensures { (files : List FileSaid) (display : Clock) → AreKept files display kept.old.items → AreKept files display kept.new.items }
@@ -31,11 +30,8 @@ pub(crate) fn add_kept<'a>(
     Ok(())
 }
 
-/// Takes what is known at a place.
-fn take_at<'a>(
-    kept: &mut Vec<Option<Box<KeptLocals<'a>>>>,
-    place: usize,
-) -> Option<Box<KeptLocals<'a>>>
+/// Takes the series that rests at a place.
+fn take_at<'a>(kept: &mut Vec<Option<Box<Series<'a>>>>, place: usize) -> Option<Box<Series<'a>>>
     ensures rest { (files : List FileSaid) (display : Clock) → AreKept files display kept.old.items → AreKept files display kept.new.items }
     ensures taken { (files : List FileSaid) (display : Clock) → AreKept files display kept.old.items → IsKeptIn files display result }
 {
@@ -46,44 +42,40 @@ fn take_at<'a>(
     }
 }
 
-/// What is known of the rule of a master, whose place this is. If nothing is known yet, it begins with the rule alone.
+/// The series of a master, whose place this is, if it rests there.
 pub(crate) fn take_kept<'a>(
-    alloc: Global,
-    kept: &mut Vec<Option<Box<KeptLocals<'a>>>>,
+    kept: &mut Vec<Option<Box<Series<'a>>>>,
     place: usize,
     event: &'a Event,
-) -> Option<Box<KeptLocals<'a>>>
+) -> Option<Box<Series<'a>>>
     ensures rest { (files : List FileSaid) (display : Clock) → AreKept files display kept.old.items → AreKept files display kept.new.items }
     ensures of { (files : List FileSaid) (display : Clock) → AreKept files display kept.old.items → (by : Placed) → IsMaster files display by
-        → by.event ≡ event.now → IsKeptOf event.now result }
+        → by.event ≡ event.now → IsSeriesOf event.now result }
 {
-    if kept.len() <= place {
-        return None;
-    }
     if let Some(known) = take_at(kept, place) {
         if known.event().uid.as_slice() == event.uid.as_slice() {
             return Some(known);
         }
     }
-    KeptLocals::new(alloc, event, place)
+    None
 }
 
-/// Puts what is known at its place.
-fn put_at<'a>(kept: &mut Vec<Option<Box<KeptLocals<'a>>>>, known: Box<KeptLocals<'a>>)
-    ensures { (files : List FileSaid) (display : Clock) → AreKept files display kept.old.items → IsKeptIn files display (Some known.entry)
+/// Puts the series of a master at its place, where it rests.
+fn put_at<'a>(kept: &mut Vec<Option<Box<Series<'a>>>>, placed: PlacedSeries<'a>)
+    ensures { (files : List FileSaid) (display : Clock) → AreKept files display kept.old.items → IsKeptIn files display (Some placed.entry.series)
         → AreKept files display kept.new.items }
 {
-    let place = known.place();
+    let PlacedSeries { place, series, .. } = placed;
     if place < kept.len() {
-        kept[place] = Some(known);
+        kept[place] = Some(series);
     }
 }
 
-/// Keeps what is known at the end of a day, each at its place. Where nothing that was given lasts longer, the spans and
-/// the marks are moved on.
+/// Keeps the series of a day that has ended, each at its place. Where nothing that was given lasts longer, the spans and the marks
+/// are moved on.
 #[tactic(auto, using(crate::proofs::OverLemmas::moved_none, crate::proofs::OverLemmas::stay_none))]
 pub(crate) fn give_back<'a>(
-    kept: &mut Vec<Option<Box<KeptLocals<'a>>>>,
+    kept: &mut Vec<Option<Box<Series<'a>>>>,
     versions: &[Version<'a>],
     near: &[usize],
     spans: &mut Vec<Span>,
@@ -103,8 +95,8 @@ pub(crate) fn give_back<'a>(
         return;
     }
     for lead in leads {
-        if let Some(known) = lead.into_feed().end(versions, near, spans, marks, over) {
-            put_at(kept, known);
+        if let Some(placed) = lead.into_feed().end(versions, near, spans, marks, over) {
+            put_at(kept, placed);
         }
     }
 }

@@ -6,25 +6,25 @@ ghost use Rattle.std.specs.Option.{option_map};
 ghost use Rattle.std.specs.Ordering.{on};
 ghost use Rattle.std.specs.Str.{bytes_eq};
 ghost use Rattle.ics_file.specs.File.{said_by};
-ghost use Rattle.ics_event.specs.declared.event.Event.{Event};
 ghost use Rattle.ics_starts.specs.Clocks.{display_clock};
 ghost use Rattle.ics_listing.specs.After.{is_after};
 ghost use Rattle.ics_listing.specs.Entry.{entry_cmp, key_rank, Entry};
 ghost use Rattle.ics_listing.specs.Listing.{IsIn, IsListing};
 ghost use Rattle.ics_listing.specs.Rising.{Rises};
-ghost use Rattle.ics_series.specs.Inner.Kept.{AreKept, IsPartOf};
+ghost use Rattle.ics_series.specs.Inner.Kept.{AreKept, IsPartOf, IsSeriesOf};
 ghost use Rattle.ics_series.specs.Inner.Ended.{AreMovedOff, IsMasterAt, IsOverPart};
 ghost use Rattle.ics_series.specs.Inner.Marks.{AreMarks, StayMarks};
 ghost use Rattle.ics_starts.specs.RuleMarks.{IsBegun, IsMarkOf};
 ghost use Rattle.ics_series.specs.Inner.Masters.{AreFrom, HasLists, HasSources, IsBehind, IsOfVersion, IsSince, IsSourceOf, Recurs, named_by};
 ghost use Rattle.ics_days.specs.NearPlaces.{AreNear, AreSameBut};
 ghost use Rattle.ics_series.specs.AgendaParts.{part_coming, part_sources};
-ghost use Rattle.ics_starts.specs.SeriesFeed.{series_left, series_of, series_sources, IsSameSeries};
+ghost use Rattle.ics_starts.specs.SeriesFeed.{series_left, series_of, series_sources, source_of, IsSameSeries};
+ghost use Rattle.ics_starts.specs.SeriesStarts.{IsSeriesMet};
 ghost use Rattle.ics_starts.specs.SingleEvents.{is_single};
 ghost use Rattle.ics_listing.specs.FeedSources.{Recurring};
 ghost use Rattle.ics_series.specs.Sources.{IsFrom};
 ghost use Rattle.ics_listing.specs.FeedSources.Source.{Of};
-ghost use Rattle.ics_starts.specs.FileZones.{clocks_in};
+ghost use Rattle.ics_starts.specs.FileZones.{clocks_in, IsOwnEvent};
 ghost use Rattle.ics_series.specs.Inner.Spans.{AreMovedOn, AreSpans, IsMovedOn, IsStartedBy};
 ghost use Rattle.ics_series.specs.Spots.{event_at};
 ghost use Rattle.ics_series.specs.Versions.{seen, subject_cmp, AreChosen};
@@ -36,9 +36,10 @@ use crate::part::{Part, PlacedSeries};
 use crate::span::{is_out, put_span};
 use crate::version::Version;
 use ics_days::{Span, first_at};
+use ics_event::Event;
 use ics_file::FileEvents;
 use ics_listing::{Coming, Key, Window};
-use ics_starts::{KeptLocals, Mark, Replaced, Series, is_single};
+use ics_starts::{FileZones, KeptLocals, Mark, Replaced, Series, is_single};
 use ics_values::Moment;
 use ics_zone::Display;
 use std::alloc::{AllocError, Global};
@@ -58,7 +59,7 @@ pub(crate) fn push_series<'a>(
     near: &[usize],
     spans: &mut Vec<Span>,
     marks: &mut Vec<Option<Mark>>,
-    kept: &mut Vec<Option<Box<KeptLocals<'a>>>>,
+    kept: &mut Vec<Option<Box<Series<'a>>>>,
     window: Window,
     after: Option<&Key>,
     floor: Option<Moment>,
@@ -191,7 +192,7 @@ fn is_master_at(versions: &[Version<'_>], place: usize, uid: &[u8]) -> bool
 }
 
 /// The feed of the version at a place, if its event recurs. It begins at the instant `begin` or later, as all does
-/// that is to come of the version. It is made apart from what asks for it, so that its room is cleared only here.
+/// that is to come of the version.
 #[inline(never)]
 fn series_at<'a>(
     alloc: Global,
@@ -200,7 +201,7 @@ fn series_at<'a>(
     chosen: &[Version<'_>],
     place: usize,
     mark: Option<Mark>,
-    kept: &mut Vec<Option<Box<KeptLocals<'a>>>>,
+    kept: &mut Vec<Option<Box<Series<'a>>>>,
     window: Window,
     after: Option<&Key>,
     begin: Moment,
@@ -234,19 +235,79 @@ fn series_at<'a>(
     let zones = version.spot.zones(files, display);
     let since = since_of(after, event.uid.as_slice());
     let replaced = replaced_at(alloc, chosen, place)?;
-    let known = take_kept(alloc, kept, place, event);
-    let series = Series::new(
+    let keeps = place < kept.len();
+    let resting = take_kept(kept, place, event);
+    let held = series_of(
         alloc,
         zones,
         event,
         window,
         since.max(begin),
         mark,
-        known,
+        resting,
+        keeps.then_some(place),
         replaced,
     )?;
-    let held = Box::new(alloc, series)?;
     Ok(Some(held))
+}
+
+/// The series of an event: the one that rests, begun again, or a new one. If it has a place to rest at, what is found of its rule is kept.
+fn series_of<'a>(
+    alloc: Global,
+    zones: FileZones<'a>,
+    event: &'a Event,
+    window: Window,
+    since: Moment,
+    mark: Option<Mark>,
+    resting: Option<Box<Series<'a>>>,
+    place: Option<usize>,
+    replaced: Replaced,
+) -> Result<Box<Series<'a>>, AllocError>
+    requires own { IsOwnEvent zones event.now }
+    requires mark { IsMarkOf event.now mark }
+    requires resting { IsSeriesOf event.now resting }
+    ensures listing { IfOk result (λ series. IsListing entry_cmp
+        (IsSeriesMet (clocks_in zones.entry) event.entry.now window since replaced.instants.items)
+        (⟦<Series<'a> as Coming>⟧.coming series.value)) }
+    ensures sources { IfOk result (λ series. series_sources series.value ≡ source_of (clocks_in zones.entry) event.entry.now window since) }
+    ensures begun { IfOk result (λ series. MatchOption series.value.rule_starts (Unit {0}) (λ s. IsBegun s.rule s.from s.cursor)) }
+{
+    match resting {
+        None => new_series(alloc, zones, event, window, since, mark, place, replaced),
+        Some(mut series) => {
+            series.again(alloc, zones, event, window, since, mark, replaced)?;
+            Ok(series)
+        }
+    }
+}
+
+/// A new series of an event. It is made apart from what asks for it, so that its room is cleared only here.
+#[inline(never)]
+fn new_series<'a>(
+    alloc: Global,
+    zones: FileZones<'a>,
+    event: &'a Event,
+    window: Window,
+    since: Moment,
+    mark: Option<Mark>,
+    place: Option<usize>,
+    replaced: Replaced,
+) -> Result<Box<Series<'a>>, AllocError>
+    requires own { IsOwnEvent zones event.now }
+    requires mark { IsMarkOf event.now mark }
+    ensures listing { IfOk result (λ series. IsListing entry_cmp
+        (IsSeriesMet (clocks_in zones.entry) event.entry.now window since replaced.instants.items)
+        (⟦<Series<'a> as Coming>⟧.coming series.value)) }
+    ensures sources { IfOk result (λ series. series_sources series.value ≡ source_of (clocks_in zones.entry) event.entry.now window since) }
+    ensures begun { IfOk result (λ series. MatchOption series.value.rule_starts (Unit {0}) (λ s. IsBegun s.rule s.from s.cursor)) }
+{
+    let kept = match place {
+        None => None,
+        Some(place) => KeptLocals::new(alloc, event, place),
+    };
+    let series = Series::new(alloc, zones, event, window, since, mark, kept, replaced)?;
+    let held = Box::new(alloc, series)?;
+    Ok(held)
 }
 
 /// The instances of the master at a place that overrides replace. These stand behind it.

@@ -8,7 +8,7 @@ use crate::version::Version;
 use ics_days::Span;
 use ics_event::Event;
 use ics_listing::{Begins, Coming, Feed, Holding, Occurrence};
-use ics_starts::{KeptLocals, Mark, Series};
+use ics_starts::{Mark, Series};
 use ics_values::Moment;
 use std::alloc::AllocError;
 
@@ -30,15 +30,15 @@ pub(crate) struct PlacedSeries<'a> {
 }
 
 impl<'a> Part<'a> {
-    ghost use Rattle.std.specs.Prelude.{◌≡◌, true, List};
+    ghost use Rattle.std.specs.Prelude.{◌≡◌, true, List, MatchOption, Some};
     ghost use Rattle.ics_file.specs.File.{FileSaid};
     ghost use Rattle.ics_listing.specs.FileClocks.{Clock};
     ghost use Rattle.ics_series.specs.Inner.Ended.{AreMovedOff, IsOverPart};
     ghost use Rattle.ics_series.specs.Inner.Kept.{IsKeptIn, IsPartOf};
     ghost use Rattle.ics_series.specs.Inner.Marks.{StayMarks};
 
-    /// Ends it, with nothing to come. What is known of the rule that it was searched by is given back, if that is kept. Where
-    /// nothing that was given lasts longer, the span and the mark of a master are moved on.
+    /// Ends it, with nothing to come. The series of a master is given back. Where nothing that was given lasts longer, the span and the mark
+    /// of the master are moved on.
     #[tactic(auto, using(crate::proofs::OverLemmas::moved_none, crate::proofs::OverLemmas::stay_none))]
     pub(crate) fn end(
         self,
@@ -47,20 +47,21 @@ impl<'a> Part<'a> {
         spans: &mut Vec<Span>,
         marks: &mut Vec<Option<Mark>>,
         over: bool,
-    ) -> Option<Box<KeptLocals<'a>>>
-        ensures kept { (files : List FileSaid) (display : Clock) → IsPartOf files display self.entry → IsKeptIn files display result }
+    ) -> Option<PlacedSeries<'a>>
+        ensures kept { (files : List FileSaid) (display : Clock) → IsPartOf files display self.entry
+            → MatchOption result (Unit {0}) (λ placed. IsKeptIn files display (Some placed.series)) }
         ensures spans { AreMovedOff versions.entry.now near.entry.now (λ s day. over ≡ true → IsOverPart s day self.entry)
             spans.old.items spans.new.items }
         ensures marks { StayMarks versions.entry.now (λ files display. IsPartOf files display self.entry) marks.old.items marks.new.items }
     {
         match self {
             Part::Singles(_) => None,
-            Part::Series(placed) => {
+            Part::Series(mut placed) => {
                 if over {
                     move_off(versions, near, spans, marks, &placed);
                 }
-                let PlacedSeries { series, .. } = placed;
-                Box::into_inner(series).into_kept()
+                placed.series.rest();
+                Some(placed)
             }
         }
     }

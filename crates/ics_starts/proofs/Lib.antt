@@ -24,3 +24,5 @@ pub mod TakenLemmas
 pub mod EndedLemmas
 pub mod OverLemmas
 pub mod SameLemmas
+pub mod BeginLemmas
+pub mod BegunLemmas

@@ -1,12 +1,13 @@
 -- What is known of the rule of an event, and of its starts while they are read, has at most one proof.
-use Rattle.std.specs.Prelude.{◌≡◌, ◌<ℤ◌, ◌≤ℤ◌, ◌+ℤ◌, ◌-ℤ◌, ℕ, ℤ, pos, List, Option, None, Some}
+use Rattle.std.specs.Prelude.{◌≡◌, ◌<ℤ◌, ◌≤ℤ◌, ◌+ℤ◌, ◌-ℤ◌, Bool, false, ℕ, ℤ, pos, List, Option, None, Some}
 use Rattle.std.specs.Int.{int_min}
 use Rattle.std.specs.Coded.{Unit-prop, Π_prop, codes}
 use Rattle.std.proofs.Props.{props}
 use Rattle.ics_rule.specs.Cursors.{CountedBy, HasLooked, IsCursorIn, IsCursorOf}
 use Rattle.ics_period.specs.EffectiveRules.{effective}
 use Rattle.ics_fields.specs.Locals.{local_seconds, number, midnight, whole_days}
-use Rattle.ics_rule.specs.Kept.{until_moment}
+use Rattle.ics_rule.specs.Kept.{is_kept, until_moment}
+use Rattle.ics_rule.specs.Next.{NoneKept}
 use Rattle.ics_period.specs.Recurrence.{Recurrence}
 use Rattle.ics_rule.specs.declared.cursor.Cursor.{Cursor}
 use Rattle.ics_period.specs.declared.effective_rule.EffectiveRule.{EffectiveRule}
@@ -55,6 +56,12 @@ cursor-in-prop q start o cursor = hlevel (props, counted-prop)
 pub cursor-prop : (rule : Recurrence) (cursor : Cursor) → IsProp (IsCursorOf rule cursor)
 unfolding IsCursorOf
 cursor-prop rule cursor = cursor-in-prop (effective rule) (number rule.start) rule.parts.count cursor
+
+bool-prop : (a b : Bool) → IsProp (a ≡ b)
+bool-prop a b = hlevel (props, codes)
+
+pub none-prop : (rule : Recurrence) (a b : ℕ) → IsProp (NoneKept rule a b)
+none-prop rule a b = Π_prop λ n. Π_prop λ l. Π_prop λ u. bool-prop (is_kept rule n) false
 
 bounded-prop : (clock : Clock) (b : Bounds) → IsProp (IsBounded clock b)
 bounded-prop clock b = hlevel props

@@ -101,6 +101,15 @@ first_asked clocks w event since starts = int_max (earliest clocks w event start
 abbrev pub AreTooEarly : Clocks → Event → Local → ℤ → Type 0
 AreTooEarly clocks event from first = (n : ℕ) → number (local_of event.start.stamp) ≤ n → n < number from → moment_numbered clocks event n <ℤ first
 
+-- From this local on the event's rule is read, if its starts are needed from this instant on. It is not before DTSTART, and no more than so many seconds
+-- and a day before the instant. Those before it mean instants before that one, by more seconds than an occurrence of the event can end late.
+pub record IsRuleBegin (clocks : Clocks) (event : Event) (first : ℤ) (from : Local) : Type 0 where
+  pub day : IsDayNumber from.day
+  pub bounds : Bounds
+  pub bounded : IsBounded (clock_of clocks event.start) bounds
+  pub late : int_max (local_seconds (local_of event.start.stamp)) (first -ℤ (seconds_back event +ℤ whole_days 1)) ≤ℤ local_seconds from
+  pub low : AreTooEarly clocks event from (first -ℤ late_within bounds event)
+
 -- The starts that the event's rule gives by the locals from one on. By none before it can it give one that is needed: it means an instant before the first
 -- that is asked for, by more seconds than an occurrence of the event can end late.
 pub record IsRuleFrom (clocks : Clocks) (event : Event) (w : Window) (since : ℤ) (listed starts : List Start) : Type 0 where

@@ -366,16 +366,20 @@ impl<'a> KeptLocals<'a> {
     }
 }
 
-/// What is kept of a rule, where a search of it has ended.
-pub(crate) fn ended<'a>(kept: Option<Box<KeptLocals<'a>>>) -> Option<Box<KeptLocals<'a>>>
-    ensures { MatchOption result (Unit {0}) (λ k. MatchOption kept.entry ⊥ (λ j. k.value.event ≡ j.value.event)) }
-{
+/// Whether something is kept of a rule, of which each search looks for the locals anew.
+pub(crate) fn is_searched(kept: &Option<Box<KeptLocals<'_>>>) -> bool {
     match kept {
-        None => None,
-        Some(mut kept) => {
-            kept.end();
-            Some(kept)
-        }
+        None => false,
+        Some(kept) => !kept.keeps,
+    }
+}
+
+/// Ends a search of a rule, of which something is kept.
+pub(crate) fn end(kept: &mut Option<Box<KeptLocals<'_>>>)
+    ensures { MatchOption kept.new (Unit {0}) (λ k. MatchOption kept.old ⊥ (λ j. k.value.event ≡ j.value.event)) }
+{
+    if let Some(kept) = kept {
+        kept.end();
     }
 }
 

@@ -1,9 +1,10 @@
 //! The starts that the rule of an event gives, read one UTC day at a time.
-ghost use Rattle.std.specs.Prelude.{◌≡◌, ◌≤◌, ◌<ℤ◌, ◌≤ℤ◌, ◌+ℤ◌, ◌&&◌, ℤ, pos, true, int_lt, IfOk, OnErr, OnOk, Some};
+ghost use Rattle.std.specs.Prelude.{◌≡◌, ◌≤◌, ◌<ℤ◌, ◌≤ℤ◌, ◌+ℤ◌, ◌&&◌, ℤ, [], pos, true, int_lt, IfOk, OnErr, OnOk, Some};
 ghost use Rattle.jiff_core.specs.Calendar.{IsBetween, IsWithin};
 ghost use Rattle.ics_fields.specs.Days.{IsDayNumber};
 ghost use Rattle.ics_rule.specs.Cursors.{place_of, IsCursorOf};
 ghost use Rattle.ics_rule.specs.Kept.{is_kept};
+ghost use Rattle.ics_rule.specs.Next.{NoneKept};
 ghost use Rattle.ics_fields.specs.Locals.{number, year_number, year_seconds};
 ghost use Rattle.ics_zone.specs.Seconds.{IsMoment};
 ghost use Rattle.ics_listing.specs.StartOrder.{moment_cmp};
@@ -16,22 +17,23 @@ ghost use Rattle.ics_listing.specs.Rising.{Rises, Rises-prop};
 ghost use Rattle.ics_starts.specs.Clocks.{clock_of, instant, AreSpansOf, IsBounded, IsStretched};
 ghost use Rattle.ics_starts.specs.RuleStarts.{gives, lets_until, midnight_number, read_from, settled_from, with_held};
 ghost use Rattle.ics_starts.specs.RuleStarts.{AreHeld, HasLookedTo, IsReadTo};
-ghost use Rattle.ics_starts.specs.RuleStartLaws.{cursor-prop, held-prop, looked-prop, read-to-prop, rule-of-prop, stretched-prop, IsRuleOf};
+ghost use Rattle.ics_starts.specs.RuleStartLaws.{cursor-prop, held-prop, looked-prop, none-prop, read-to-prop, rule-of-prop, stretched-prop, IsRuleOf};
 ghost use Rattle.ics_listing.specs.StartTimes.{local_of, time_at};
 ghost use Rattle.ics_starts.specs.Starts.{recurrence_of};
 ghost use Rattle.ics_starts.specs.FileZones.{clocks_in, IsTimeOf};
-ghost use Rattle.ics_listing.specs.Waiting.{starts_in};
+ghost use Rattle.ics_listing.specs.Waiting.{starts_in, waiting_in};
 ghost use Rattle.ics_period.specs.PeriodNumbers.{rules_end};
 
 use crate::exclusion::Exclusions;
 use crate::instants::{bounds, instant_in, is_in, no_stretch, stretch, stretch_by};
-use crate::kept_locals::{KeptLocals, ended, known_next, leave, next};
+use crate::kept_locals::{KeptLocals, end, is_searched, known_next, leave, next};
 use crate::listed::lesser_past;
 use crate::mark::{Mark, Quiet, begun};
 use crate::shared_rule::SharedRule;
 use crate::starts::{end_nearby, is_until};
 use crate::zones::FileZones;
 use ics_event::{Event, Time};
+use ics_fields::Frequency;
 use ics_listing::{Queue, Start, Waiting, Window, local_of, time_at};
 use ics_rule::{Cursor, Rule};
 use ics_values::{Local, Moment, Stamp};
@@ -70,6 +72,9 @@ pub(crate) struct RuleStarts<'a> {
     cursor: Cursor,
     /// The number of its place.
     place: u64,
+    /// The rule keeps no local from this number on and before `none_to`, as its parts tell.
+    none_from: u64,
+    none_to: Local,
     day: i32,
     /// No period was looked at for a local from this day on. It is `day` or, while that is read, the next.
     asked: i32,
@@ -98,6 +103,8 @@ pub(crate) struct RuleStarts<'a> {
     ghost known: { IsKeptOf event.now kept } by { kept-of-prop event.now kept },
     ghost reached: { IsReadTo day asked end next (place_of cursor) } by { read-to-prop day asked end next (place_of cursor) },
     ghost early: { midnight_number end ≤ rules_end },
+    ghost none: { NoneKept rule none_from (number none_to) } by { none-prop rule none_from (number none_to) },
+    ghost none_day: { IsDayNumber none_to.day },
 }
 
 /// Whether the instant of a local is before the window's end and, unless the local is the first, not after UNTIL.
@@ -135,6 +142,28 @@ fn hold(
         held.put(waiting)?;
     }
     Ok(())
+}
+
+/// Whether the parts of an event's rule tell at once that most locals that it keeps are days apart.
+fn is_sparse(event: &Event) -> bool {
+    let Some(rule) = &event.rule else {
+        return false;
+    };
+    let parts = rule.parts();
+    match parts.frequency {
+        Frequency::Yearly | Frequency::Monthly => true,
+        Frequency::Weekly => parts.interval > 1 || parts.weekdays.is_empty(),
+        _ => false,
+    }
+}
+
+/// Drops all that waits. Room that is held for it stays where nothing does.
+fn clear(held: &mut Queue, alloc: Global)
+    ensures { waiting_in held.new ≡ [] }
+{
+    if held.len() > 0 {
+        *held = Queue::new(alloc);
+    }
 }
 
 /// The seconds of the first local that can be read, of those of a day and later ones of which none is before one in seconds. A date is read at its
@@ -221,7 +250,7 @@ fn stretch_at(
 
 impl<'a> RuleStarts<'a> {
     ghost use Rattle.std.specs.Prelude.{◌≡◌, ◌+◌, ◌-◌, ◌-ℤ◌, ◌<◌, ◌≤ℤ◌, ℕ, false, length, slice_get, IfOk, MatchOption, OnOk, Some};
-    ghost use Rattle.ics_rule.specs.Cursors.{steps_of};
+    ghost use Rattle.ics_rule.specs.Cursors.{steps_of, HasLooked};
     ghost use Rattle.ics_listing.specs.Listing.{IsIn};
     ghost use Rattle.ics_listing.specs.Merged.{cut};
     ghost use Rattle.ics_starts.specs.RuleFeed.{held_in, is_unsettled, settled_in, starts_left, HasEnded, HasLeapt, HasSameSource, HasSkipped};
@@ -265,6 +294,7 @@ impl<'a> RuleStarts<'a> {
         );
         let day = from.day.min(end);
         let begun = begun(rule.get(), from, end, mark);
+        let place = from.number();
         let next = Local::at(day, 0).seconds();
         RuleStarts {
             zones,
@@ -275,7 +305,9 @@ impl<'a> RuleStarts<'a> {
             bounds,
             from,
             cursor: begun,
-            place: from.number(),
+            place,
+            none_from: place,
+            none_to: from,
             day,
             asked: day,
             end,
@@ -285,6 +317,52 @@ impl<'a> RuleStarts<'a> {
             held: Queue::new(alloc),
             beyond: Moment::MAX,
         }
+    }
+
+    /// Begins a search of the same rule anew, for the starts by the locals from a given one on.
+    pub(crate) fn again(
+        &mut self,
+        alloc: Global,
+        zones: FileZones<'a>,
+        event: &'a Event,
+        window: Window,
+        from: Local,
+        mark: Option<Mark>,
+    )
+        requires event { IsOwnEvent zones event.now }
+        requires same { self.old.event.now ≡ event.now }
+        requires from { IsDayNumber from.day }
+        requires mark { MatchOption mark (Unit {0}) (IsCountMark self.old.rule) }
+        ensures left { starts_left self.new ≡ found (clocks_in zones.entry) event.entry.now self.old.rule window (number from) }
+        ensures zones { self.new.zones ≡ zones.entry }
+        ensures event { self.new.event ≡ event.entry }
+        ensures window { self.new.window ≡ window }
+        ensures from { self.new.from ≡ from }
+        ensures begun { IsBegun self.new.rule self.new.from self.new.cursor }
+    {
+        let bounds = bounds(zones, event.start);
+        let until = self.rule.get().until_moment();
+        let end = end_nearby(&window, until, event.start.stamp, bounds.most);
+        let day = from.day.min(end);
+        let next = Local::at(day, 0).seconds();
+        let place = from.number();
+        self.cursor = begun(self.rule.get(), from, end, mark);
+        self.zones = zones;
+        self.event = event;
+        self.window = window;
+        self.bounds = bounds;
+        self.from = from;
+        self.place = place;
+        self.none_from = place;
+        self.none_to = from;
+        self.day = day;
+        self.asked = day;
+        self.end = end;
+        self.next = next;
+        self.stretch = no_stretch(next);
+        self.spans = None;
+        self.beyond = Moment::MAX;
+        clear(&mut self.held, alloc);
     }
 
     /// The first held start.
@@ -430,6 +508,40 @@ impl<'a> RuleStarts<'a> {
         }
     }
 
+    /// Passes over all locals to be read, if something is known of the rule, a local was found, and the parts of the rule tell that it keeps no other
+    /// before the end. Whether they do. They tell it for the time after that too.
+    fn pass_rest(&mut self) -> bool
+        requires { is_unsettled self.old ≡ true }
+        ensures left { starts_left self.new ≡ starts_left self.old }
+        ensures source { HasSameSource self.old self.new }
+        ensures less { result ≡ true → steps_left self.new.day self.new.end (place_of self.new.cursor)
+            < steps_left self.old.day self.old.end (place_of self.old.cursor) }
+        ensures same { result ≡ false → self.new ≡ self.old }
+    {
+        if !is_searched(&self.kept) || !is_sparse(self.event) || self.cursor.steps() == 0 {
+            return false;
+        }
+        let bound = self.bound();
+        if bound < self.end {
+            return false;
+        }
+        let to = Local::at(bound, 0);
+        let mut cursor = self.cursor;
+        let next = cursor.quiet(self.rule.get());
+        if next.number() < to.number() {
+            return false;
+        }
+        cursor.pass(self.rule.get(), to);
+        self.none_from = self.place;
+        self.none_to = next;
+        self.cursor = cursor;
+        self.place = self.place.max(to.number());
+        self.day = bound;
+        self.asked = bound;
+        self.next = to.seconds();
+        true
+    }
+
     /// Reads up to the next local, if the first of the starts still to come is not known. Whether it was not.
     pub(crate) fn read_next(&mut self) -> Result<bool, AllocError>
         ensures same { starts_left self.new ≡ starts_left self.old }
@@ -440,6 +552,9 @@ impl<'a> RuleStarts<'a> {
     {
         if !self.is_behind() {
             return Ok(false);
+        }
+        if self.pass_rest() {
+            return Ok(true);
         }
         self.read_on()?;
         self.pass_end();
@@ -697,7 +812,7 @@ impl<'a> RuleStarts<'a> {
             },
             _ => {
                 let mut cursor = self.cursor;
-                let next = cursor.quiet(self.rule.get());
+                let next = self.quiet_from(&mut cursor);
                 let settled = self.settled_at(next);
                 // They are after a settled instant.
                 let after = settled + 1;
@@ -708,6 +823,21 @@ impl<'a> RuleStarts<'a> {
                 }
             }
         }
+    }
+
+    /// A local before which the rule keeps none from the place of the cursor, a copy of which this is. It is known or asked for.
+    fn quiet_from(&self, cursor: &mut Cursor) -> Local
+        requires { cursor.old ≡ self.now.cursor }
+        ensures none { NoneKept self.now.rule (place_of self.now.cursor) (number result) }
+        ensures day { IsDayNumber result.day }
+        ensures place { place_of cursor.new ≡ place_of self.now.cursor }
+        ensures own { IsCursorOf self.now.rule cursor.new }
+        ensures looked { (a b : ℕ) → HasLooked self.now.rule self.now.cursor a b → HasLooked self.now.rule cursor.new a b }
+    {
+        if self.none_from <= self.place && self.place < self.none_to.number() {
+            return self.none_to;
+        }
+        cursor.quiet(self.rule.get())
     }
 
     /// An instant that is before those of all locals from one on.
@@ -773,12 +903,12 @@ impl<'a> RuleStarts<'a> {
         })
     }
 
-    /// Gives back what is known of the rule, also by this search.
-    pub(crate) fn into_kept(self) -> Option<Box<KeptLocals<'a>>>
-        ensures { IsKeptOf self.entry.event.now result }
+    /// Ends the search. What it has found is known to the next.
+    pub(crate) fn rest(&mut self)
+        ensures left { starts_left self.new ≡ starts_left self.old }
+        ensures source { HasSameSource self.old self.new }
     {
-        let RuleStarts { kept, .. } = self;
-        ended(kept)
+        end(&mut self.kept);
     }
 
     /// How many starts are held.

@@ -1,9 +1,10 @@
 //! The occurrences of one event that meet a window, found one by one.
-ghost use Rattle.std.specs.Prelude.{◌≡◌, ◌<◌, ◌≤ℤ◌, ◌-ℤ◌, pos, false, slice_get, true, All, IfOk, IfSome, List, MatchOption, None, Some};
+ghost use Rattle.std.specs.Prelude.{◌≡◌, ◌<◌, ◌≤ℤ◌, ◌-ℤ◌, ℤ, pos, false, is_some, slice_get, true, All, IfOk, IfSome, List, MatchOption, None, Some};
 ghost use Rattle.std.specs.List.Sorted.{IsSorted};
 ghost use Rattle.std.specs.Ordering.{int_cmp};
 ghost use Rattle.ics_event.specs.Event.{IsLasting};
 ghost use Rattle.ics_fields.specs.Days.{IsDayNumber};
+ghost use Rattle.ics_period.specs.Recurrence.{Recurrence};
 ghost use Rattle.ics_fields.specs.Locals.{number, year_seconds};
 ghost use Rattle.ics_listing.specs.Entry.{entry_cmp};
 ghost use Rattle.ics_starts.specs.EventLaws.{own-event-prop};
@@ -25,7 +26,7 @@ ghost use Rattle.ics_starts.specs.RuleFeed.{starts_left};
 ghost use Rattle.ics_starts.specs.SeriesLaws.{first-given-prop, own-rule-prop, ruled-prop, starts-in-prop, taken-out-prop};
 ghost use Rattle.ics_starts.specs.SeriesStarts.{first_asked, first_of, given_of, left, listed_apart, rule_asked, rule_left, rule_steps};
 ghost use Rattle.ics_starts.specs.SeriesStarts.{AreEnded, AreLeapt, AreSkipped, AreStartsIn, HasOwnRule, HasRuled, HasSameRule};
-ghost use Rattle.ics_starts.specs.SeriesStarts.{IsFirstGiven, IsFirstOf, IsReady, IsRuleFrom};
+ghost use Rattle.ics_starts.specs.SeriesStarts.{IsFirstGiven, IsFirstOf, IsReady, IsRuleBegin, IsRuleFrom};
 ghost use Rattle.ics_listing.specs.KnownStarts.{listed_left};
 ghost use Rattle.ics_starts.specs.FileZones.{clocks_in, IsOwnEvent};
 ghost use Rattle.ics_starts.specs.Starts.{recurrence_of};
@@ -51,7 +52,7 @@ use ics_event::Event;
 use ics_fields::Parts;
 use ics_listing::{Begins, Coming, Feed, ListedStarts, Occurrence, Start, Window, local_of};
 use ics_rule::Rule;
-use ics_values::{Duration, Moment};
+use ics_values::{Duration, Local, Moment};
 use ics_zone::Stretch;
 use std::alloc::{AllocError, Global};
 
@@ -140,6 +141,72 @@ fn rule_of(
     }
 }
 
+/// Whether the rule of an event has COUNT.
+fn is_counted(event: &Event) -> bool
+    ensures { (rule : Recurrence) → recurrence_of event.now ≡ Some rule → result ≡ is_some rule.parts.count }
+{
+    match &event.rule {
+        None => false,
+        Some(rule) => rule.parts().count.is_some(),
+    }
+}
+
+/// The local from which on the rule of an event is read for the starts from an instant on and, if the event is long, for earlier ones that can
+/// still meet the window.
+fn begin_of_rule(
+    zones: FileZones<'_>,
+    event: &Event,
+    window: &Window,
+    since: Moment,
+    met: Moment,
+    listed: &[Start],
+) -> Local
+    requires event { IsOwnEvent zones event.now }
+    requires met { met ≡ first_met (clocks_in zones) window.now event.now }
+    requires late { (occurrence_first -ℤ lasts_most) ≤ℤ met }
+    requires early { met ≤ℤ window.now.from }
+    requires listed { All (IsStartIn zones) listed.now }
+    ensures { IsRuleBegin (clocks_in zones.entry) event.now (first_asked (clocks_in zones.entry) window.now event.now since listed.now) result }
+{
+    let bounds = bounds(zones, event.start);
+    let earliest = earliest(zones, event, window, met, listed);
+    // All instants this late after the window's end are treated as one: no day is read for them.
+    let late = window.to + 14 * 86_400;
+    // A search under COUNT goes on from the midnight where another began.
+    first_nearby(
+        local_of(event.start.stamp),
+        seconds_back(event, bounds),
+        is_counted(event),
+        earliest.max(since.min(late)),
+    )
+}
+
+/// Begins a search of the rule of an event anew from a local on, if it has one. Under COUNT it goes on from a mark.
+fn begin_again<'a>(
+    rule: &mut Option<RuleStarts<'a>>,
+    alloc: Global,
+    zones: FileZones<'a>,
+    event: &'a Event,
+    window: Window,
+    from: Local,
+    mark: Option<Mark>,
+)
+    requires event { IsOwnEvent zones event.now }
+    requires rule { MatchOption rule.old (event.now.rule ≡ None) (λ s. s.event.now ≡ event.now) }
+    requires day { IsDayNumber from.day }
+    requires mark { IsMarkOf event.now mark }
+    ensures own { (first : ℤ) → IsRuleBegin (clocks_in zones.entry) event.entry.now first from → HasOwnRule zones.entry event.entry.now window first rule.new }
+    ensures from { (since : ℤ) (listed : List Start) → IsRuleBegin (clocks_in zones.entry) event.entry.now
+        (first_asked (clocks_in zones.entry) window event.entry.now since listed) from → MatchOption rule.new (event.entry.now.rule ≡ None)
+        (λ starts. IsRuleFrom (clocks_in zones.entry) event.entry.now window since listed (starts_left starts)) }
+    ensures begun { MatchOption rule.new (Unit {0}) (λ starts. IsBegun starts.rule starts.from starts.cursor) }
+{
+    if let Some(starts) = rule {
+        let mark = counted(is_counted(event), mark);
+        starts.again(alloc, zones, event, window, from, mark);
+    }
+}
+
 /// The starts that the rule of an event gives, if it has one: those from an instant on and, if the
 /// event is long, earlier ones that can still meet the window.
 fn starts_by_rule<'a>(
@@ -170,21 +237,9 @@ fn starts_by_rule<'a>(
         return Ok(None);
     };
     let parts = value.parts();
-    let first = local_of(event.start.stamp);
-    let counts = parts.count.is_some();
     let rule = rule_of(alloc, event, parts, &kept)?;
-    let bounds = bounds(zones, event.start);
-    let earliest = earliest(zones, event, &window, met, listed);
-    // All instants this late after the window's end are treated as one: no day is read for them.
-    let late = window.to + 14 * 86_400;
-    // A search under COUNT goes on from the midnight where another began.
-    let from = first_nearby(
-        first,
-        seconds_back(event, bounds),
-        counts,
-        earliest.max(since.min(late)),
-    );
-    let mark = counted(counts, mark);
+    let from = begin_of_rule(zones, event, &window, since, met, listed);
+    let mark = counted(is_counted(event), mark);
     Ok(Some(RuleStarts::new(alloc, zones, event, window, rule, from, mark, kept)))
 }
 
@@ -217,6 +272,16 @@ fn is_dense(rule: &Option<RuleStarts<'_>>) -> bool {
     match rule {
         None => false,
         Some(starts) => starts.is_dense(),
+    }
+}
+
+/// Ends a search of a rule, if there is one.
+fn rest_rule(rule: &mut Option<RuleStarts<'_>>)
+    ensures left { rule_left rule.new ≡ rule_left rule.old }
+    ensures rule { HasSameRule rule.old rule.new }
+{
+    if let Some(starts) = rule {
+        starts.rest();
     }
 }
 
@@ -385,6 +450,56 @@ impl<'a> Series<'a> {
             listed: ListedStarts::new(alloc, listed)?,
             ends: Ends::new(),
         })
+    }
+
+    /// Becomes the series of the same event for another window, instant and other instances that others replace. What its searches have found of the
+    /// rule is known. After an `AllocError` it is what it was.
+    pub fn again(
+        &mut self,
+        alloc: Global,
+        zones: FileZones<'a>,
+        event: &'a Event,
+        window: Window,
+        since: Moment,
+        mark: Option<Mark>,
+        replaced: Replaced,
+    ) -> Result<(), AllocError>
+        requires own { IsOwnEvent zones event.now }
+        requires same { self.old.event.now ≡ event.now }
+        requires mark { IsMarkOf event.now mark }
+        ensures listing { OnOk result (IsListing entry_cmp
+            (IsSeriesMet (clocks_in zones.entry) event.entry.now window since replaced.instants.items)
+            (⟦<Series<'a> as Coming>⟧.coming self.new)) }
+        ensures sources { OnOk result (series_sources self.new ≡ source_of (clocks_in zones.entry) event.entry.now window since) }
+        ensures begun { OnOk result (MatchOption self.new.rule_starts (Unit {0}) (λ s. IsBegun s.rule s.from s.cursor)) }
+    {
+        let met = first_met(zones, event, &window);
+        let from = counts_from(met);
+        let mut known = ClockStretches::none();
+        let running = running(alloc, zones, &mut known, event, &window, from)?;
+        let listed = listed_apart(alloc, zones, &mut known, event, &window, from, &running)?;
+        let exclusions = Exclusions::new(alloc, zones, &mut known, event, &window, from, running)?;
+        let begin = begin_of_rule(zones, event, &window, since, met, &listed);
+        let starts = ListedStarts::new(alloc, listed)?;
+        begin_again(
+            &mut self.rule_starts,
+            alloc,
+            zones,
+            event,
+            window,
+            begin,
+            mark,
+        );
+        self.zones = zones;
+        self.event = event;
+        self.window = window;
+        self.since = since;
+        self.first = None;
+        self.exclusions = exclusions;
+        self.replaced = replaced;
+        self.listed = starts;
+        self.ends = Ends::new();
+        Ok(())
     }
 
     /// Reads up to the rule's next local, if the first of the starts that it still gives is not known. Whether it was not.
@@ -664,15 +779,18 @@ impl<'a> Series<'a> {
         }
     }
 
-    /// Gives back what is known of its rule, also by its search.
-    pub fn into_kept(self) -> Option<Box<KeptLocals<'a>>>
-        ensures { IsKeptOf self.entry.event.now result }
+    /// Ends its search. What that has found of its rule is known to the next.
+    pub fn rest(&mut self)
+        ensures { self.new.event ≡ self.old.event }
     {
-        let Series { rule_starts, .. } = self;
-        match rule_starts {
-            None => None,
-            Some(starts) => starts.into_kept(),
-        }
+        rest_rule(&mut self.rule_starts);
+    }
+
+    /// Its event.
+    pub fn event(&self) -> &'a Event
+        ensures { result ≡ self.now.event }
+    {
+        self.event
     }
 
     /// How many starts of its rule are held.

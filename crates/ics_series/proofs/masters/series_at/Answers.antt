@@ -43,19 +43,19 @@ returns-then-is_single c =
           (sym c.is_single.ensures ∙ c.if-is_single.true);
     }
 
-pub new-requires-clause-own : goal.new-requires-clause-own
-new-requires-clause-own c =
+pub series_of-requires-clause-own : goal.series_of-requires-clause-own
+series_of-requires-clause-own c =
     own-event c.zones-zones.result c.event-event.result.now (search rules)
     (subst (λ zs. IsEventOf zs c.event-event.result.now) (sym c.zones-zones.ensures.zones) c.event-event.ensures.own)
 
-pub new-requires-clause-mark : goal.new-requires-clause-mark
-new-requires-clause-mark c =
+pub series_of-requires-clause-mark : goal.series_of-requires-clause-mark
+series_of-requires-clause-mark c =
     c.requires.mark c.index-chosen-place.result c.event-event.result.now
     (slice_get_read c.args.chosen.now _ c.args.place c.index-chosen-place.result refl c.requires.within c.index-chosen-place.is)
     c.event-event.ensures.event
 
-pub new-requires-clause-kept : goal.new-requires-clause-kept
-new-requires-clause-kept c =
+pub series_of-requires-clause-resting : goal.series_of-requires-clause-resting
+series_of-requires-clause-resting c =
     let files = map said_by c.args.files.now in
     let display = display_clock c.args.display.now in
     let version = c.index-chosen-place.result in
@@ -79,7 +79,7 @@ new-requires-clause-kept c =
         since = tt;
       };
     }) in
-    c.take_kept-known.ensures.of files display c.requires.kept of.by of.is (sym of.event)
+    c.take_kept-resting.ensures.of files display c.requires.kept of.by of.is (sym of.event)
 
 pub replaced_at-requires-clause-rises : goal.replaced_at-requires-clause-rises
 replaced_at-requires-clause-rises c = chosen-rises c.requires.chosen
@@ -121,18 +121,18 @@ returns c =
     (λ t. ap (λ xs. is_among xs t) named ∙ named-among own t (map seen c.args.chosen.now)) in
     record {
       series = λ version there.
-          rw (← some-same c.index-chosen-place.result version (sym here ∙ there), c.in_ok-held.ensures.ok)
+          rw (← some-same c.index-chosen-place.result version (sym here ∙ there))
           (series-listing r read c.args.window after c.since_of-since.result since late
           (λ o v low.
           let come = come-since r read c.args.window after c.since_of-since.result since o v in
           let begin = c.requires.begin c.index-chosen-place.result here o v low in
-          omega (arith, ints, least-is, max, come, begin)) replaced c.in_ok-series.ensures.listing);
+          omega (arith, ints, least-is, max, come, begin)) replaced c.in_ok-held.ensures.listing);
       since = λ version there.
           let first = ap
           (first_source (record
           { clocks = clocks_in c.zones-zones.result; event = c.event-event.result.now; window = c.args.window; since = c.args.window.from }))
-          c.in_ok-series.ensures.sources in
-          rw (← some-same c.index-chosen-place.result version (sym here ∙ there), c.in_ok-held.ensures.ok)
+          c.in_ok-held.ensures.sources in
+          rw (← some-same c.index-chosen-place.result version (sym here ∙ there))
           (subst (IsBehind (map said_by c.args.files.now) (display_clock c.args.display.now) c.args.window after (seen c.index-chosen-place.result))
           (sym (ap (λ (r : Recurring). r.since) first)) (behind r read c.args.window after c.since_of-since.result since late));
       sources = λ version there. (
@@ -150,16 +150,12 @@ returns c =
               window = refl;
               since = from-later after c.since_of-since.ensures.from late;
             }),
-        rw c.in_ok-held.ensures.ok c.in_ok-series.ensures.sources,
+        c.in_ok-held.ensures.sources,
       );
-      begun = rw c.in_ok-held.ensures.ok c.in_ok-series.ensures.begun;
-      kept = c.take_kept-known.ensures.rest (map said_by c.args.files.now) (display_clock c.args.display.now) c.requires.kept;
+      begun = c.in_ok-held.ensures.begun;
+      kept = c.take_kept-resting.ensures.rest (map said_by c.args.files.now) (display_clock c.args.display.now) c.requires.kept;
     }
-
-pub returns-in_err-series-clause-kept : goal.returns-in_err-series-clause-kept
-returns-in_err-series-clause-kept c =
-    c.take_kept-known.ensures.rest (map said_by c.args.files.now) (display_clock c.args.display.now) c.requires.kept
 
 pub returns-in_err-held-clause-kept : goal.returns-in_err-held-clause-kept
 returns-in_err-held-clause-kept c =
-    c.take_kept-known.ensures.rest (map said_by c.args.files.now) (display_clock c.args.display.now) c.requires.kept
+    c.take_kept-resting.ensures.rest (map said_by c.args.files.now) (display_clock c.args.display.now) c.requires.kept

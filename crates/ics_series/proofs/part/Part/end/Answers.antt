@@ -1,20 +1,18 @@
-use Rattle.std.proofs.Common.{◌≡◌, Option, Vec, Global, ap, true, sym, subst}
+use Rattle.std.proofs.Common.{◌≡◌, ◌∙◌, Option, Vec, Global, ap, true, sym, subst}
 use Rattle.ics_starts.specs.declared.series.Series.{Series}
 use Rattle.ics_series.specs.Inner.Kept.{IsEventOfMaster, IsPartOf}
 use Rattle.ics_series.specs.Inner.Ended.{AreMovedOff, IsOverPart}
 use Rattle.ics_series.specs.Inner.Marks.{StayMarks}
 use Rattle.ics_days.specs.declared.span.Span.{Span}
 use Rattle.ics_starts.specs.declared.mark.Mark.{Mark}
-use Rattle.ics_series.proofs.KnownLemmas.{kept-of-series}
 use Rattle.ics_series.proofs.OverLemmas.{moved-as, moved_none, stay_none}
 use Rattle.ics_series.proofs.part.Part.end.Goals as goal
 use Rattle.ics_series.proofs.part.Part.end.Goals.{then-over, else-over}
 
 pub returns-clause-kept : goal.returns-clause-kept
 returns-clause-kept c = λ files display part.
-    kept-of-series files display c.into_inner.result.event.now c.into_kept.result
-    (subst (λ (s : Series). IsEventOfMaster files display s.event.now) (sym c.into_inner.ensures) (subst (IsPartOf files display) c.in-Series.is part))
-    c.into_kept.ensures
+    let own : IsEventOfMaster files display c.in-Series.placed.series.value.event.now = subst (IsPartOf files display) c.in-Series.is part in
+    subst (IsEventOfMaster files display) (sym (ap (λ e. e.now) c.rest.ensures ∙ ap (λ (s : Series). s.event.now) c.deref_mut.ensures.value)) own
 
 pub returns-clause-spans : goal.returns-clause-spans
 returns-clause-spans c =

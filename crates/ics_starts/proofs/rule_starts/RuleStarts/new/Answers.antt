@@ -1,43 +1,27 @@
-use Rattle.std.proofs.Common.{◌≡◌, ◌<ℤ◌, ◌+ℤ◌, ◌-ℤ◌, ◌∙◌, pos, refl, sym, ap, subst, arith, map, to_z, of_z, w32, ℤ, Option}
+use Rattle.std.proofs.Common.{◌≡◌, ◌∙◌, refl, sym, ap, subst, arith, map, to_z, of_z, w32}
 use Rattle.std.specs.Int.{int_min}
 use Rattle.std.proofs.lemmas.Int.{int_min_is, ints}
 use Rattle.ics_fields.specs.declared.local.Local.{Local}
 use Rattle.ics_rule.specs.Cursors.{place_of}
 use Rattle.ics_event.specs.declared.event.Event.{Event}
-use Rattle.ics_fields.specs.Locals.{local_seconds, midnight, number, whole_days}
+use Rattle.ics_fields.specs.Locals.{local_seconds, midnight, number}
 use Rattle.ics_starts.specs.Clocks.{clock_of, IsBounded}
 use Rattle.ics_listing.specs.StartOrder.{moment_cmp}
 use Rattle.ics_starts.specs.Leeway.{seconds_off}
 use Rattle.ics_listing.specs.Listing.{IsIn}
-use Rattle.ics_listing.specs.declared.window.Window.{Window}
 use Rattle.ics_listing.specs.Rising.{Rises}
+use Rattle.ics_starts.proofs.BeginLemmas.{end-of-window, ends-same, first-same}
 use Rattle.ics_starts.proofs.RuleDayLemmas.{come-empty}
-use Rattle.ics_starts.specs.RuleStarts.{ends_at, HasLookedTo}
+use Rattle.ics_starts.specs.RuleStarts.{HasLookedTo}
 use Rattle.ics_listing.specs.Waiting.{start_of, starts_in}
 use Rattle.ics_listing.specs.StartTimes.{local_of}
 use Rattle.ics_listing.proofs.StartOrderLemmas.{calendar-day, own-day}
 use Rattle.ics_starts.proofs.StartSourceLemmas.{rule-first}
-use Rattle.ics_starts.proofs.SettledLemmas.{off-range}
 use Rattle.ics_starts.specs.FileZones.{clocks_in, IsTimeOf}
 use Rattle.ics_starts.specs.Quiet.{AreBeyond}
 use Rattle.ics_starts.proofs.QuietLemmas.{beyond-begun}
-use Rattle.ics_starts.proofs.RuleStepLemmas.{day-back, ends-most, most-back, signed-back}
+use Rattle.ics_starts.proofs.RuleStepLemmas.{day-back, most-back, signed-back}
 use Rattle.ics_starts.proofs.rule_starts.RuleStarts.new.Goals as goal
-
--- where the rule ends is told by the event as it is seen
-ends-same : (w : Window) {o p : Option ℤ} {u v : Event} → o ≡ p → u ≡ v →
-    ends_at w o (local_seconds (local_of u.start.stamp)) ≡ ends_at w p (local_seconds (local_of v.start.stamp))
-ends-same w e f = λ i. ends_at w (e i) (local_seconds (local_of (f i).start.stamp))
-
-first-same : (w : Window) {o p : Option ℤ} {u v : Event} → o ≡ p → u ≡ v →
-    int_min (local_seconds (local_of u.start.stamp)) (ends_at w o (local_seconds (local_of u.start.stamp)) -ℤ pos 1)
-    ≡ int_min (local_seconds (local_of v.start.stamp)) (ends_at w p (local_seconds (local_of v.start.stamp)) -ℤ pos 1)
-first-same w e f = λ i. int_min (local_seconds (local_of (f i).start.stamp)) (ends_at w (e i) (local_seconds (local_of (f i).start.stamp)) -ℤ pos 1)
-
-end-of-window : (w : Window) (o : Option ℤ) (end : ℤ) {u v : Event} → u ≡ v →
-    midnight end <ℤ (ends_at w o (local_seconds (local_of u.start.stamp)) +ℤ (seconds_off u.start.stamp +ℤ whole_days 1))
-    → midnight end <ℤ (w.to +ℤ whole_days 3)
-end-of-window w o end {u = u} f l = omega (arith, ints, l, ends-most w o (local_seconds (local_of u.start.stamp)), off-range u.start.stamp)
 
 pub bounds-bounds-requires : goal.bounds-bounds-requires
 bounds-bounds-requires c = subst (λ (v : Event). IsTimeOf c.args.zones.zones.now v.start) (sym c.event.view_is) c.requires.event.start
@@ -105,7 +89,7 @@ invariant_of-result c =
       spanned = ∣ tt ∣₁;
       own = begun.own;
       looked = subst (λ d. HasLookedTo c.args.rule c.args.from d c.begun-begun.result) (sym asked) (rw c.get-2.ensures at c.begun-begun.ensures.looked);
-      placed = c.number.ensures.value ∙ sym place;
+      placed = c.number-place.ensures.value ∙ sym place;
       known = c.requires.kept;
       reached = record {
         read = omega (arith, ints, place, day, end, from, min, int_min_is, day-from.0, day-from.1, e.day.0, e.day.1);
@@ -117,6 +101,8 @@ invariant_of-result c =
         by_end = omega (arith, ints, day, end, from, min, int_min_is);
       };
       early = omega (arith, ints, end, w.not_late, most, e.day.0);
+      none = λ n l u. absurd (omega (arith, l, u, c.number-place.ensures.value));
+      none_day = c.requires.from;
     }
 
 pub returns-clause-begun : goal.returns-clause-begun

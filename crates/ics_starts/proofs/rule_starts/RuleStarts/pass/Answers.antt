@@ -30,6 +30,8 @@ invariant_of-self c =
       known = s.known;
       reached = s.reached;
       early = s.early;
+      none = s.none;
+      none_day = s.none_day;
     }
 
 pub returns-then-first-start-clause-left : goal.returns-then-first-start-clause-left

@@ -85,6 +85,8 @@ invariant_of-self c =
         by_end = s.reached.by_end;
       };
       early = s.early;
+      none = s.none;
+      none_day = s.none_day;
     }
 
 pub returns-then-self-last : goal.returns-then-self-last

@@ -20,9 +20,9 @@ returns-in_default-clause-to c =
     let least : SFits w64 c.args.self.now.beyond = search rules in
     let settles : SFits w64 c.settled_at-settled.result = search rules in
     let near = c.settled_at-settled.ensures.near in
-    quiet-by s c.quiet-next.result (rw c.get-in_default.ensures at c.quiet-next.ensures.none) (omega (arith, ints, int_min_is, c.min-to.ensures))
+    quiet-by s c.quiet_from-next.result c.quiet_from-next.ensures.none (omega (arith, ints, int_min_is, c.min-to.ensures))
     (omega (arith, ints, int_min_is, c.min-to.ensures, near)) c.settled_at-settled.ensures.after
 
 pub mark_before-requires-clause-looked : goal.mark_before-requires-clause-looked
 mark_before-requires-clause-looked c = λ before h.
-    (rw c.get-in_default.ensures at c.quiet-next.ensures.looked) _ before (c.args.self.now.looked before h)
+    c.quiet_from-next.ensures.looked _ before (c.args.self.now.looked before h)

@@ -41,6 +41,8 @@ invariant_of-self-in-Break-1 c =
       known = kept-same s.event.now s.kept _ c.next.ensures.same s.known;
       reached = s.reached;
       early = s.early;
+      none = s.none;
+      none_day = s.none_day;
     }
 
 pub next-requires-clause-kept : goal.next-requires-clause-kept
@@ -81,6 +83,8 @@ invariant_of-self c =
       known = kept-same s.event.now s.kept _ c.next.ensures.same s.known;
       reached = r.reached;
       early = s.early;
+      none = s.none;
+      none_day = s.none_day;
     }
 
 pub number-requires : goal.number-requires
@@ -105,6 +109,8 @@ invariant_of-self-in-Some-1 c =
       known = kept-same s.event.now s.kept _ c.next.ensures.same s.known;
       reached = s.reached;
       early = s.early;
+      none = s.none;
+      none_day = s.none_day;
     }
 
 pub stretch_at-self-requires-clause-time : goal.stretch_at-self-requires-clause-time
@@ -175,6 +181,8 @@ invariant_of-self-in-Some c =
       known = kept-same s.event.now s.kept _ c.next.ensures.same s.known;
       reached = r.reached;
       early = s.early;
+      none = s.none;
+      none_day = s.none_day;
     }
 
 pub returns-in-None : goal.returns-in-None

@@ -26,6 +26,8 @@ invariant_of-self-in-Some c =
       known = kept-same m.event.now m.kept _ c.leave.ensures m.known;
       reached = m.reached;
       early = m.early;
+      none = m.none;
+      none_day = m.none_day;
     }
 
 pub returns-in-None-clause-removed : goal.returns-in-None-clause-removed
@@ -44,3 +46,23 @@ returns-else-to-seconds-clause-removed c = λ n l u.
     ∙ ap (λ at. at +ℤ pos 62_167_219_200) same in
     next-taken c.args.self.now c.args.exclusions.now.instants.items c.args.exclusions.now.days.items c.in-Some.local c.args.from
     c.removed_at-to.result (rw c.get.ensures at c.in-Some.ensures.next) place c.removed_at-to.ensures.removed n l (omega (arith, ints, u))
+
+pub invariant_of-self : goal.invariant_of-self
+invariant_of-self c =
+    let s = c.args.self.now in
+    record {
+      rule_of = s.rule_of;
+      rises = s.rises;
+      are = s.are;
+      past_end = s.past_end;
+      stretched = s.stretched;
+      spanned = s.spanned;
+      own = s.own;
+      looked = s.looked;
+      placed = s.placed;
+      known = kept-same s.event.now s.kept _ c.known_next.ensures.same s.known;
+      reached = s.reached;
+      early = s.early;
+      none = s.none;
+      none_day = s.none_day;
+    }

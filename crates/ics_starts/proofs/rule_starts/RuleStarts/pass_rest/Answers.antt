@@ -1,0 +1,72 @@
+use Rattle.std.proofs.Common.{◌∙◌, ◌≤◌, max, ap, arith}
+use Rattle.ics_fields.specs.Locals.{number}
+use Rattle.ics_rule.specs.Cursors.{place_of}
+use Rattle.ics_rule.specs.Next.{NoneKept}
+use Rattle.ics_starts.proofs.QuietLemmas.{beyond-none}
+use Rattle.ics_starts.proofs.RuleStepLemmas.{bound-days, none-read}
+use Rattle.ics_starts.proofs.rule_starts.RuleStarts.pass_rest.Goals as goal
+
+pub number-requires-2 : goal.number-requires-2
+number-requires-2 c =
+    let b = c.bound-bound in
+    bound-days c.args.self.now b.type_inv b.ensures.later b.ensures.within c.at-to.ensures
+
+pub pass-requires-clause-day : goal.pass-requires-clause-day
+pass-requires-clause-day c =
+    let b = c.bound-bound in
+    bound-days c.args.self.now b.type_inv b.ensures.later b.ensures.within c.at-to.ensures
+
+pub number-requires-3 : goal.number-requires-3
+number-requires-3 c =
+    let b = c.bound-bound in
+    bound-days c.args.self.now b.type_inv b.ensures.later b.ensures.within c.at-to.ensures
+
+pub invariant_of-self : goal.invariant_of-self
+invariant_of-self c =
+    let s = c.args.self.now in
+    let b = c.bound-bound in
+    let none = rw c.get.ensures at c.quiet-next.ensures.none in
+    let to : number c.at-to.result ≤ number c.quiet-next.result = omega (arith, c.number.ensures.value, c.number-2.ensures.value, c.if-number.false) in
+    let none-to : NoneKept s.rule (place_of s.cursor) (number c.at-to.result) = λ n l u. none n l (omega (arith, u, to)) in
+    let place = c.pass.ensures.place ∙ ap (λ p. max p (number c.at-to.result)) c.quiet-next.ensures.place in
+    let r = none-read s b.type_inv b.ensures.later b.ensures.within c.at-to.ensures b.ensures.held (none-to, place) c.seconds-self.ensures in
+    let looked = rw c.get.ensures at c.quiet-next.ensures.looked in
+    let passed = rw c.get-2.ensures at c.pass.ensures.looked in
+    record {
+      rule_of = s.rule_of;
+      rises = r.rises;
+      are = r.are;
+      past_end = beyond-none s (none-to, place);
+      stretched = s.stretched;
+      spanned = s.spanned;
+      own = rw c.get-2.ensures at c.pass.ensures.own;
+      looked = λ before m. passed _ before (looked _ before (s.looked before (omega (arith, r.before, m))));
+      placed = omega (arith, s.placed, place, c.number-3.ensures.value, c.max-self.ensures);
+      known = s.known;
+      reached = r.reached;
+      early = s.early;
+      none = λ n l u. none n (omega (arith, l, s.placed)) u;
+      none_day = c.quiet-next.ensures.day;
+    }
+
+pub returns-clause-left : goal.returns-clause-left
+returns-clause-left c =
+    let s = c.args.self.now in
+    let b = c.bound-bound in
+    let none = rw c.get.ensures at c.quiet-next.ensures.none in
+    let to : number c.at-to.result ≤ number c.quiet-next.result = omega (arith, c.number.ensures.value, c.number-2.ensures.value, c.if-number.false) in
+    let none-to : NoneKept s.rule (place_of s.cursor) (number c.at-to.result) = λ n l u. none n l (omega (arith, u, to)) in
+    let place = c.pass.ensures.place ∙ ap (λ p. max p (number c.at-to.result)) c.quiet-next.ensures.place in
+    let r = none-read s b.type_inv b.ensures.later b.ensures.within c.at-to.ensures b.ensures.held (none-to, place) c.seconds-self.ensures in
+    r.same
+
+pub returns-clause-less : goal.returns-clause-less
+returns-clause-less c = λ is.
+    let s = c.args.self.now in
+    let b = c.bound-bound in
+    let none = rw c.get.ensures at c.quiet-next.ensures.none in
+    let to : number c.at-to.result ≤ number c.quiet-next.result = omega (arith, c.number.ensures.value, c.number-2.ensures.value, c.if-number.false) in
+    let none-to : NoneKept s.rule (place_of s.cursor) (number c.at-to.result) = λ n l u. none n l (omega (arith, u, to)) in
+    let place = c.pass.ensures.place ∙ ap (λ p. max p (number c.at-to.result)) c.quiet-next.ensures.place in
+    let r = none-read s b.type_inv b.ensures.later b.ensures.within c.at-to.ensures b.ensures.held (none-to, place) c.seconds-self.ensures in
+    r.less
