@@ -1,6 +1,6 @@
 -- What a cursor looks at.
 use Rattle.std.proofs.Common.{◌≡◌, ℕ, zero, suc, ◌+◌, ◌-◌, ◌<◌, ◌≤◌, inl, inr, Bool, true, false, ◌==◌, nat_le, ◌&&◌, Option, Some, None, MatchOption}
-use Rattle.std.proofs.Common.{max, refl, ap, ◌∙◌, arith}
+use Rattle.std.proofs.Common.{max, refl, ap, sym, ◌∙◌, arith}
 use Rattle.std.proofs.lemmas.Bool.{and_parts, cases_lt, eq-eqb}
 use Rattle.std.proofs.lemmas.Bool.Decides.{nat_tests}
 use Rattle.jiff_core.specs.Weekday.{monday_zero}
@@ -9,7 +9,7 @@ use Rattle.ics_period.specs.declared.recurrence_period.RecurrencePeriod.{Recurre
 use Rattle.ics_rule.specs.declared.cursor.Cursor.{Cursor}
 use Rattle.ics_period.specs.Candidates.{is_stepped, period_in}
 use Rattle.ics_period.specs.Ranks.{count, is_chosen}
-use Rattle.ics_period.specs.RecurrencePeriods.{first_local}
+use Rattle.ics_period.specs.RecurrencePeriods.{first_local, IsPeriodOf}
 use Rattle.ics_rule.specs.Cursors.{is_met, fresh, HeldBy, CountedBy, IsCursorIn, HasLookedIn, period_count, steps_of, IsCursorOf}
 use Rattle.ics_rule.specs.Cursors.{HasLooked}
 use Rattle.ics_period.specs.EffectiveRules.{effective}
@@ -80,6 +80,20 @@ own_moved {q = q} {n = n} {now = now} place moved held l counted h =
 pub own_at : {q : EffectiveRule} {start : ℕ} {o : Option ℕ} {c : Cursor} (place : ℕ) → IsCursorIn q start o c → c.place ≤ place → place < calendar_end →
     IsCursorIn q start o (record c { place = place })
 own_at {c = c} place own l h = own_moved {n = c.place} place (moved_none 0 own) own.held l own.counted h
+
+-- the period of the place is held as if it had been looked at now
+module _ {q : EffectiveRule} {start : ℕ} {o : Option ℕ} (c : Cursor) (p : RecurrencePeriod) (none : o ≡ None) (own : IsCursorIn q start o c)
+    (at : IsPeriodOf q p × (p.number ≡ period_in q c.place)) (new : fresh c.held ≤ p.number)
+    (step : is_stepped (period_in q start) q.interval p.number ≡ true) where
+  moved : HasMoved q start o (suc c.place) c (after_look c p 0)
+  moved = moved_on (moved_none (suc c.place) own) (looks_once 0 c p new refl refl) (λ a b s few. met_by q start a b p.number c.place
+      (rw none at few.low) (omega (arith, s)) (sym at.1) step)
+
+  pub own_held : IsCursorIn q start o (after_look c p 0)
+  own_held = own_moved {n = c.place} c.place moved (at.0, omega (arith, at.1)) (omega arith) (rw none tt) own.inside
+
+  pub looked_held : (a b : ℕ) → c.place < b → HasLookedIn q start o c a b → HasLookedIn q start o (after_look c p 0) a b
+  looked_held a b l few = record { low = few.low; few = moved.looked a b (omega (arith, l)) few }
 
 -- places only rise
 pub looked_walked : {q : EffectiveRule} {start : ℕ} {o : Option ℕ} {stop : ℕ} {found : Option ℕ} {before now : Cursor} {a b : ℕ} (place : ℕ) →

@@ -1,5 +1,5 @@
 //! A search for the locals that a rule keeps, from a place on.
-ghost use Rattle.std.specs.Prelude.{◌≡◌, ℕ, ◌<◌, ◌≤◌, ◌+◌, ◌*◌, max, Some, MatchOption, IfSome, nat_lt};
+ghost use Rattle.std.specs.Prelude.{◌≡◌, ℕ, ◌<◌, ◌≤◌, ◌+◌, ◌*◌, max, true, Some, MatchOption, IfSome, nat_lt};
 ghost use Rattle.ics_fields.specs.Days.{IsDayNumber, day_index};
 ghost use Rattle.ics_fields.specs.RuleParts.{IsUntil};
 ghost use Rattle.ics_rule.specs.Kept.{is_by_until};
@@ -9,8 +9,9 @@ ghost use Rattle.ics_fields.specs.Locals.{calendar_end};
 use crate::never::chooses_none;
 use crate::rule::Rule;
 use crate::search::Search;
+use crate::walk::next_step;
 use ics_fields::{Local, Until};
-use ics_period::{Kind, RecurrencePeriod};
+use ics_period::{Kind, RecurrencePeriod, period_of};
 
 /// 9801-01-01T00:00:00, the end of the rules.
 pub(crate) const RULES_END: u64 = 309_289_708_800;
@@ -65,7 +66,7 @@ impl Cursor {
     ghost use Rattle.ics_period.specs.Candidates.{period_in};
     ghost use Rattle.ics_rule.specs.Next.{IsNextKept, NoneKept};
     ghost use Rattle.ics_rule.specs.Calls.{IsAnswer, LooksUpTo};
-    ghost use Rattle.ics_rule.specs.Cursors.{known_to, period_count, place_of, steps_of, looks_from, IsCursorOf, HasCounted, HasLooked, IsCursorIn};
+    ghost use Rattle.ics_rule.specs.Cursors.{known_to, fresh, period_count, place_of, steps_of, looks_from, IsCursorOf, HasCounted, HasLooked, IsCursorIn};
     ghost use Rattle.ics_rule.specs.Cursors.{HasLookedIn};
     ghost use Rattle.ics_rule.specs.Inner.Searches.{IsNextWanted, IsSameButQuiet, IsWalked};
 
@@ -168,6 +169,43 @@ impl Cursor {
         ensures looked { (a b : ℕ) → HasLooked _rule.now self.old a b → HasLooked _rule.now self.new a b }
     {
         self.place = self.place.max(to.number());
+    }
+
+    /// Holds the period of the place, as if it had been looked at now, if another cursor of the rule holds that. The next search then need not look at
+    /// it. Under COUNT nothing changes.
+    pub fn hold(&mut self, rule: &Rule, other: &Cursor)
+        requires own { IsCursorOf rule.now self.old }
+        requires other { IsCursorOf rule.now other.now }
+        ensures place { place_of self.new ≡ place_of self.old }
+        ensures rise { steps_of self.old ≤ steps_of self.new }
+        ensures own { IsCursorOf rule.now self.new }
+        ensures looked { (a b : ℕ) → place_of self.old < b → HasLooked rule.now self.old a b → HasLooked rule.now self.new a b }
+    {
+        let search = Search::of(rule, rule.start.number());
+        let own = period_of(search.parts, self.place);
+        let Some(period) = other.held else {
+            return;
+        };
+        if search.count.is_some() || period.number() != own || !self.looks_before(own) {
+            return;
+        }
+        if next_step(search.first, search.parts.interval, own) != own {
+            return;
+        }
+        self.held = Some(period);
+        self.steps += 1;
+        self.counted = 0;
+        self.quiet_to = 0;
+    }
+
+    /// Whether each period that was looked at is earlier than the one with a number.
+    fn looks_before(&self, number: u64) -> bool
+        ensures { result ≡ true → fresh self.now.held ≤ number }
+    {
+        match &self.held {
+            None => true,
+            Some(period) => period.number() < number,
+        }
     }
 
     /// A local before which the rule keeps none from the place on, as far as the parts of the rule tell and the period that was looked at last.
