@@ -1,15 +1,16 @@
 //! A rule with the locals that searches of it have found, so that a later search need not make it, nor look for them, again.
-ghost use Rattle.std.specs.Prelude.{◌≡◌, ◌<◌, ◌≤◌, Some, MatchOption, IfOk, IfSome, slice_get};
+ghost use Rattle.std.specs.Prelude.{◌≡◌, ◌<◌, ◌≤◌, ℕ, Some, MatchOption, IfOk, IfSome, slice_get};
 ghost use Rattle.std.specs.Option.{option_map};
 ghost use Rattle.ics_fields.specs.Days.{IsDayNumber};
 ghost use Rattle.ics_fields.specs.Locals.{number};
 ghost use Rattle.ics_period.specs.PeriodNumbers.{rules_end};
 ghost use Rattle.ics_period.specs.Recurrence.{Recurrence};
 ghost use Rattle.ics_rule.specs.Calls.{IsAnswer};
-ghost use Rattle.ics_rule.specs.Cursors.{known_to, place_of, IsCursorOf};
+ghost use Rattle.ics_rule.specs.Cursors.{known_to, place_of, HasLooked, IsCursorOf};
+ghost use Rattle.ics_rule.specs.Next.{NoneKept};
 ghost use Rattle.ics_starts.specs.Inner.Finds.{IsCounting, IsNextLocal, IsStep, LooksOn};
 ghost use Rattle.ics_starts.specs.Inner.KeptFinds.{counting-prop, finds-prop, AreFinds, HasCounting, IsFind};
-ghost use Rattle.ics_starts.specs.RuleStartLaws.{rule-prop};
+ghost use Rattle.ics_starts.specs.RuleStartLaws.{cursor-prop, rule-prop};
 ghost use Rattle.ics_starts.specs.Starts.{recurrence_of};
 
 use crate::kind::kind_of;
@@ -17,11 +18,19 @@ use crate::lasting::day_of;
 use crate::placed_cursor::PlacedCursor;
 use crate::shared_rule::SharedRule;
 use ics_event::{Event, Length, Rdate, Time};
+use ics_fields::{Frequency, Parts, civil};
 use ics_listing::local_of;
+use ics_period::members_below;
 use ics_rule::{Cursor, Rule};
 use ics_values::Local;
 use std::alloc::{AllocError, Global};
 use std::mem;
+
+/// 9801-01-01T00:00:00, the end of the rules.
+const RULES_END: u64 = 309_289_708_800;
+
+/// A look at a year is dear beside so few times of a day.
+const FEW: u64 = 24;
 
 /// At most so many finds are kept.
 const MOST: usize = 1_024;
@@ -38,15 +47,15 @@ struct Find {
     local: Option<Local>,
 }
 
-/// The rule of an event and, if the event lasts long, the locals that searches of it have found. A search follows what the one before it has found, and
-/// finds the rest.
+/// The rule of an event and, if the event lasts long or a period of the rule is dear to look at, the locals that searches of it have found. A search
+/// follows what the one before it has found, and finds the rest.
 #[derive(Drop)]
 pub struct KeptLocals<'a> {
     event: &'a Event,
     /// Where its owner keeps them.
     place: usize,
     rule: SharedRule,
-    /// Whether the event lasts so long that finds are worth their place.
+    /// Whether the event lasts so long, or a period of the rule is so dear, that finds are worth their place.
     keeps: bool,
     /// What the searches before have found, in the order of the locals.
     known: Vec<Find>,
@@ -56,10 +65,15 @@ pub struct KeptLocals<'a> {
     found: Vec<Find>,
     /// Under COUNT, the cursor that went furthest.
     counting: Option<PlacedCursor>,
+    /// Whether more is found at once than is searched for, since a period of the rule is dear to look at. Under COUNT it is not.
+    learns: bool,
+    /// The cursor that went furthest so.
+    last: Cursor,
     ghost of: { recurrence_of event.now ≡ Some rule } by { rule-prop (recurrence_of event.now) (Some rule) },
     ghost known_are: { AreFinds rule known.items } by { finds-prop rule known.items },
     ghost found_are: { AreFinds rule found.items } by { finds-prop rule found.items },
     ghost counts: { HasCounting rule counting } by { counting-prop rule counting },
+    ghost own: { IsCursorOf rule last } by { cursor-prop rule last },
 }
 
 /// Whether an event or one of its PERIODs lasts so long that many days are searched for its starts again.
@@ -85,6 +99,45 @@ fn is_long_from(start: Time, length: Length) -> bool {
         }
         Length::Lasting(duration) => duration.days >= LONG || duration.seconds >= LONG * 86_400,
     }
+}
+
+/// How many times of a day a rule names, and one for each part that it does not name.
+fn times_of_day(parts: &Parts) -> u64 {
+    let hours = members_below(&parts.hours, 24).max(1);
+    let minutes = members_below(&parts.minutes, 60).max(1);
+    let seconds = members_below(&parts.seconds, 60).max(1);
+    hours.saturating_mul(minutes).saturating_mul(seconds)
+}
+
+/// Whether single days of a year are tested under a rule, or many can be allowed.
+fn names_days(parts: &Parts) -> bool {
+    let no_dates = parts.month_days.is_empty();
+    let no_weekdays = parts.weekdays.is_empty();
+    let counts = !parts.weeks.is_empty() || !parts.year_days.is_empty();
+    if parts.months.is_empty() {
+        counts || !no_dates || !no_weekdays
+    } else {
+        counts || !(no_dates || no_weekdays)
+    }
+}
+
+/// Whether a period of a rule is dear to look at for what is kept of it.
+fn is_dear(parts: &Parts) -> bool {
+    if !matches!(parts.frequency, Frequency::Yearly) {
+        return false;
+    }
+    !parts.positions.is_empty() || (names_days(parts) && times_of_day(parts) <= FEW)
+}
+
+/// The end of the year of a local or, in a leap year, of its last day but one, if that is later than the local. The end of the rules if that is earlier.
+fn year_after(local: u64) -> u64
+    requires { local < rules_end }
+    ensures later { local < result }
+    ensures early { result ≤ rules_end }
+{
+    let date = civil(Local::numbered(local).day);
+    let rest = 365_u64.saturating_sub(u64::from(date.year_day));
+    ((local / 86_400 + rest + 1) * 86_400).min(RULES_END)
 }
 
 /// The find at a place of a list.
@@ -160,6 +213,8 @@ impl<'a> KeptLocals<'a> {
         let parts = *event.rule.as_ref()?.parts();
         let first = local_of(event.start.stamp);
         let rule = Rule::new(parts, first, kind_of(event.start.stamp));
+        let dear = is_dear(&parts);
+        let last = Cursor::at(&rule, first);
         let counting = match parts.count {
             None => None,
             Some(_) => Some(PlacedCursor {
@@ -173,11 +228,13 @@ impl<'a> KeptLocals<'a> {
                 event,
                 place,
                 rule: SharedRule::new(alloc, rule).ok()?,
-                keeps: is_long(event),
+                keeps: dear || is_long(event),
                 known: Vec::new(alloc),
                 at: 0,
                 found: Vec::new(alloc),
                 counting,
+                learns: dear && parts.count.is_none(),
+                last,
             },
         )
         .ok()
@@ -235,6 +292,26 @@ impl<'a> KeptLocals<'a> {
             return None;
         }
         find.local
+    }
+
+    /// The next local that the rule keeps from a cursor's place on, if it was found. Else a local before which it keeps none, as far as the year that was
+    /// looked at last tells, or the parts of the rule.
+    fn quiet(&self, cursor: &Cursor, place: u64) -> Local
+        requires place { place ≡ place_of cursor.now }
+        requires own { IsCursorOf self.now.rule cursor.now }
+        ensures none { NoneKept self.now.rule place (number result) }
+        ensures day { IsDayNumber result.day }
+    {
+        if let Some(find) = find_at(&self.known, reaching(&self.known, self.at, place)) {
+            if let Some(local) = find.local {
+                if find.from <= place {
+                    return local;
+                }
+            }
+        }
+        let mut held = *cursor;
+        held.hold(self.rule.get(), &self.last);
+        held.quiet(self.rule.get())
     }
 
     /// Passes over the find that was told last. It stays known.
@@ -323,6 +400,39 @@ impl<'a> KeptLocals<'a> {
         local
     }
 
+    /// Finds the next local that the rule keeps from a cursor's place on, in its year or a part of it, where nothing is known from there on. It is known then.
+    /// The cursor holds the period that was looked at for it.
+    fn learn(&mut self, cursor: &mut PlacedCursor) -> Find
+        requires early { cursor.old.place < rules_end }
+        requires own { IsCursorOf self.old.rule cursor.old.cursor }
+        ensures rule { self.new.rule ≡ self.old.rule }
+        ensures event { self.new.event ≡ self.old.event }
+        ensures find { IsFind self.old.rule result }
+        ensures from { result.from ≡ cursor.old.place }
+        ensures to { cursor.old.place < result.to }
+        ensures place { cursor.new.place ≡ cursor.old.place }
+        ensures own { IsCursorOf self.old.rule cursor.new.cursor }
+        ensures looked { (a b : ℕ) → cursor.old.place < b → HasLooked self.old.rule cursor.old.cursor a b
+            → HasLooked self.old.rule cursor.new.cursor a b }
+    {
+        let from = cursor.place;
+        let mut far = PlacedCursor {
+            cursor: Cursor::at(self.rule.get(), Local::numbered(from)),
+            place: from,
+        };
+        far.hold(self.rule.get(), &self.last);
+        let local = far.next(self.rule.get(), year_after(from));
+        cursor.hold(self.rule.get(), &far.cursor);
+        self.last = far.cursor;
+        let find = Find {
+            from,
+            to: far.place,
+            local,
+        };
+        push(&mut self.known, find);
+        find
+    }
+
     /// A step of a search: up to the end of what is known, or of what is not known.
     fn step(&mut self, cursor: &mut PlacedCursor, end: u64) -> Option<Local>
         requires early { end ≤ rules_end }
@@ -333,6 +443,10 @@ impl<'a> KeptLocals<'a> {
         ensures step { IsStep self.old.rule end result cursor.old.cursor cursor.new.cursor }
     {
         match self.known_at(cursor.place) {
+            None if self.learns => {
+                let find = self.learn(cursor);
+                self.follow(cursor, find, end)
+            }
             None => self.search(cursor, end),
             Some(find) => {
                 if cursor.place < find.from {
@@ -438,5 +552,28 @@ pub(crate) fn next(
             local
         }
         _ => cursor.next(rule, to),
+    }
+}
+
+/// A local before which a rule keeps none from a cursor's place on, by what is known of the rule, or as far as its parts tell. The cursor keeps what it
+/// learns.
+pub(crate) fn quiet(
+    kept: &Option<Box<KeptLocals<'_>>>,
+    cursor: &mut Cursor,
+    place: u64,
+    rule: &Rule,
+) -> Local
+    requires kept { MatchOption kept.now (Unit {0}) (λ k. k.value.rule ≡ rule.now) }
+    requires place { place ≡ place_of cursor.old }
+    requires own { IsCursorOf rule.now cursor.old }
+    ensures none { NoneKept rule.now (place_of cursor.old) (number result) }
+    ensures day { IsDayNumber result.day }
+    ensures place { place_of cursor.new ≡ place_of cursor.old }
+    ensures own { IsCursorOf rule.now cursor.new }
+    ensures looked { (a b : ℕ) → HasLooked rule.now cursor.old a b → HasLooked rule.now cursor.new a b }
+{
+    match kept {
+        Some(kept) if kept.learns => kept.quiet(cursor, place),
+        _ => cursor.quiet(rule),
     }
 }

@@ -30,6 +30,17 @@ impl PlacedCursor {
         self.place = to;
     }
 
+    /// Holds the period of the place, if another cursor of the rule holds that.
+    pub(crate) fn hold(&mut self, rule: &Rule, other: &Cursor)
+        requires own { IsCursorOf rule.now self.old.cursor }
+        requires other { IsCursorOf rule.now other.now }
+        ensures place { self.new.place ≡ self.old.place }
+        ensures own { IsCursorOf rule.now self.new.cursor }
+        ensures looked { (a b : ℕ) → self.old.place < b → HasLooked rule.now self.old.cursor a b → HasLooked rule.now self.new.cursor a b }
+    {
+        self.cursor.hold(rule, other);
+    }
+
     /// The next local that a rule keeps, from the place on and before another, which is later and is given by its number.
     pub(crate) fn next(&mut self, rule: &Rule, end: u64) -> Option<Local>
         requires early { end ≤ rules_end }

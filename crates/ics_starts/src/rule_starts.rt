@@ -26,7 +26,7 @@ ghost use Rattle.ics_period.specs.PeriodNumbers.{rules_end};
 
 use crate::exclusion::Exclusions;
 use crate::instants::{bounds, instant_in, is_in, no_stretch, stretch, stretch_by};
-use crate::kept_locals::{KeptLocals, end, is_searched, known_next, leave, next};
+use crate::kept_locals::{KeptLocals, end, is_searched, known_next, leave, next, quiet};
 use crate::listed::lesser_past;
 use crate::mark::{Mark, Quiet, begun};
 use crate::shared_rule::SharedRule;
@@ -837,7 +837,7 @@ impl<'a> RuleStarts<'a> {
         if self.none_from <= self.place && self.place < self.none_to.number() {
             return self.none_to;
         }
-        cursor.quiet(self.rule.get())
+        quiet(&self.kept, cursor, self.place, self.rule.get())
     }
 
     /// An instant that is before those of all locals from one on.

@@ -21,6 +21,7 @@ invariant_of-self c =
             step.looked from_local b l
             (passed _ b (c.requires.counting.looked from_local b (omega (arith, l, step.later, from, begun, c.requires.behind))));
       };
+      own = s.own;
     }
 
 pub returns-clause-step : goal.returns-clause-step

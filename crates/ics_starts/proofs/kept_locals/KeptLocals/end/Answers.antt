@@ -12,4 +12,5 @@ invariant_of-self c =
       known_are = subst (λ (v : Vec Find Global). AreFinds s.rule v.items) (sym c.swap.ensures.x_after) all;
       found_are = subst (AreFinds s.rule) (sym c.clear.ensures.items) tt;
       counts = s.counts;
+      own = s.own;
     }

@@ -12,4 +12,5 @@ invariant_of-self c =
       known_are = s.known_are;
       found_are = c.note.ensures s.rule s.found_are (find-in s.rule c.deref.result.now _ c.in-Some.find are c.in-Some.ensures);
       counts = s.counts;
+      own = s.own;
     }

@@ -26,4 +26,5 @@ invariant_of-new c =
               (looks-counted rule.parts.count (number rule.start) (number c.local_of-first.result) from counts) (w.at.ensures.looked b);
         })
       ]);
+      own = rw shared c.at-last.ensures.own;
     }
