@@ -487,6 +487,11 @@ ROWS = [
          listed(range(1, 54)), WEEK, HOURS)), 'RRULE:FREQ=YEARLY;INTERVAL=9'), ['2024-01-01', '36525d'], 8, 32),
     ('6 yearly events in a time zone that begins on some Wednesdays that end a month, a window of ages',
      lambda: in_alike(6, ['odd'], apart(1, 'FREQ=DAILY;INTERVAL=29;BYMONTHDAY=31;BYDAY=WE'), LONG, 'RRULE:FREQ=YEARLY'), AGES[:2], 4, 32),
+    ('3 rules of all days of all weeks of a year, each day of a hundred years',
+     lambda: rules(3, 'FREQ=YEARLY;BYWEEKNO=%s;BYDAY=%s' % (listed(range(1, 54)), WEEK)), ['2024-01-01', '36525d', '--every-day'], 4, 32),
+    ('3 rules of four of these days, each day of ages, what began by each day left out',
+     lambda: rules(3, 'FREQ=YEARLY;BYWEEKNO=%s;BYDAY=%s;BYSETPOS=1,100,200,300' % (listed(range(1, 54)), WEEK)),
+     [*AGES[:3], '--notstarted'], 16, 32),
     ('400,000 faulty events, --keep-going', lambda: faulty(400_000), [*DAY, '--keep-going'], 12, 256),
 ]
 
