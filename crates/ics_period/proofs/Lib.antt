@@ -16,3 +16,4 @@ mod NearLemmas
 mod PlaceLemmas
 pub mod ClockLemmas
 pub mod StepsLemmas
+pub mod IntervalLemmas

@@ -15,7 +15,7 @@ use Rattle.ics_rule.specs.Inner.Searches.{is_few, is_wanted, IsPassed, IsTurned,
 use Rattle.ics_period.proofs.PeriodLemmas.{begun, begins, first_in, period_mono, week_small, before_first}
 use Rattle.ics_period.proofs.Counts.{count_between, count-none, count_mono, count_most}
 use Rattle.ics_period.proofs.RankLemmas.{count_flat}
-use Rattle.ics_rule.proofs.StepLemmas.{stepped_parts, none_between}
+use Rattle.ics_period.proofs.IntervalLemmas.{stepped_parts, none_between}
 use Rattle.ics_rule.proofs.ChosenLemmas.{no_step, taken_within}
 use Rattle.ics_rule.proofs.CursorLemmas.{within_here}
 use Rattle.ics_period.specs.PeriodNumbers.{rules_end}

@@ -18,7 +18,7 @@ use Rattle.ics_period.proofs.Counts.{count-same, count_mono, count_one_more}
 use Rattle.ics_period.proofs.RankLemmas.{count_flat}
 use Rattle.ics_period.proofs.PeriodLemmas.{begun, begins, before_first, before_next, is_short, period_mono}
 use Rattle.ics_rule.proofs.CountLemmas.{first_mono}
-use Rattle.ics_rule.proofs.StepLemmas.{stepped_parts}
+use Rattle.ics_period.proofs.IntervalLemmas.{stepped_parts}
 use Rattle.ics_rule.proofs.RoundLemmas.{step_repeats}
 use Rattle.ics_rule.proofs.FlatLemmas.{allowed_before, month_local, month_adds, month_is, year_is}
 use Rattle.ics_rule.proofs.SizeLemmas.{let_at, longest, chosen_adds, size_adds}

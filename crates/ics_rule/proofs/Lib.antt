@@ -1,6 +1,5 @@
 pub mod HourLemmas
 mod DayLemmas
-pub mod StepLemmas
 pub mod ChosenLemmas
 pub mod CursorLemmas
 pub mod NextLemmas

@@ -14,7 +14,7 @@ use Rattle.ics_rule.specs.Inner.Rounds.{seconds_of}
 use Rattle.ics_rule.specs.Inner.OpenPeriods.{per_day, lets_own, is_open_period}
 use Rattle.ics_period.proofs.Counts.{count-same, count-suc, count-add, count-none, count-product, count_between, count_most}
 use Rattle.ics_period.proofs.RankLemmas.{count_flat}
-use Rattle.ics_rule.proofs.StepLemmas.{stepped_parts, stepped_shown, step_on, none_between}
+use Rattle.ics_period.proofs.IntervalLemmas.{stepped_parts, stepped_shown, step_on, none_between}
 use Rattle.ics_rule.proofs.RoundLemmas.{step_repeats}
 
 -- counts of tests of which each number passes as many

@@ -10,7 +10,7 @@ use Rattle.ics_period.specs.RecurrencePeriods.{first_local}
 use Rattle.ics_rule.specs.Inner.Searches.{NoneLetIn, IsNextOpen}
 use Rattle.ics_period.proofs.PeriodLemmas.{begun, begins, period_mono}
 use Rattle.ics_period.proofs.StepsLemmas.{step_between}
-use Rattle.ics_rule.proofs.StepLemmas.{stepped_parts, stepped_shown}
+use Rattle.ics_period.proofs.IntervalLemmas.{stepped_parts, stepped_shown}
 
 -- the step of a local before which the rule lets nothing in
 pub step_open : {q : EffectiveRule} {first number begin place next : ℕ} → begin ≡ first_local q.frequency (monday_zero q.week_start) number → begin ≤ place →

@@ -18,7 +18,7 @@ use Rattle.ics_period.proofs.PeriodLemmas.{begun, period_mono}
 use Rattle.ics_period.proofs.Counts.{count_most}
 use Rattle.ics_rule.proofs.CountLemmas.{IsCountedStep, none_before_first}
 use Rattle.ics_rule.proofs.RoundLemmas.{repeats_often, step_repeats}
-use Rattle.ics_rule.proofs.StepLemmas.{stepped_parts, none_between}
+use Rattle.ics_period.proofs.IntervalLemmas.{stepped_parts, none_between}
 use Rattle.ics_rule.proofs.CursorLemmas.{meets, moved_on, own_moved, looks_once}
 use Rattle.ics_rule.proofs.WalkLemmas.{step_first}
 use Rattle.ics_period.specs.PeriodNumbers.{rules_end}

@@ -18,7 +18,7 @@ use Rattle.ics_rule.specs.Inner.Searches.{is_chosen_within, is_wanted, IsNextOpe
 use Rattle.ics_rule.specs.Inner.Searches.{IsAhead, IsPassed, IsTurned, IsTurnOf, IsUnderCount}
 use Rattle.ics_rule.specs.Inner.Rounds.{HasRound, IsPassedTo}
 use Rattle.ics_period.proofs.PeriodLemmas.{begun, before_next, period_mono}
-use Rattle.ics_rule.proofs.StepLemmas.{none_between, stepped_parts, stepped_shown}
+use Rattle.ics_period.proofs.IntervalLemmas.{none_between, stepped_parts, stepped_shown}
 use Rattle.ics_rule.proofs.ChosenLemmas.{no_step, not_let_in, taken_within}
 use Rattle.ics_rule.proofs.CursorLemmas.{held_mono, meets, moved_none, moved_on, not_wanted, within_facts, within_here}
 use Rattle.ics_rule.proofs.EvenLemmas.{even_round, none_after}

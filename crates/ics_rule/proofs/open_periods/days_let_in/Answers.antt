@@ -2,7 +2,7 @@ use Rattle.std.proofs.Common.{◌∙◌, ◌+◌, ◌<◌, ◌&&◌, true, false
 use Rattle.ics_period.specs.Candidates.{lets_date, is_stepped}
 use Rattle.std.proofs.lemmas.Bool.Decides.{nat_tests}
 use Rattle.std.proofs.lemmas.Nat.{mod-mul-add}
-use Rattle.ics_rule.proofs.StepLemmas.{stepped_shown}
+use Rattle.ics_period.proofs.IntervalLemmas.{stepped_shown}
 use Rattle.ics_period.proofs.Counts.{count_most}
 use Rattle.ics_rule.proofs.PassLemmas.{one_out}
 use Rattle.ics_rule.proofs.OpenLemmas.{walk_first, walk_small, walk_on, walk_past, walk_done, none_stepped}

@@ -1,5 +1,5 @@
 use Rattle.std.proofs.Common.{sym}
-use Rattle.ics_rule.proofs.StepLemmas.{count_steps}
+use Rattle.ics_period.proofs.IntervalLemmas.{count_steps}
 use Rattle.ics_rule.proofs.open_periods.steps_before.Goals as goal
 
 pub returns : goal.returns

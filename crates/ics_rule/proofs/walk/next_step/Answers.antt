@@ -1,4 +1,4 @@
-use Rattle.ics_rule.proofs.StepLemmas.{next_stepped}
+use Rattle.ics_period.proofs.IntervalLemmas.{next_stepped}
 use Rattle.ics_rule.proofs.walk.next_step.Goals as goal
 
 pub returns-else-own-first : goal.returns-else-own-first
