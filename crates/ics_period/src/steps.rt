@@ -215,26 +215,49 @@ fn common_divisor(a: u64, b: u64) -> u64 {
 /// A look at a period costs about as much as so many at single steps.
 const LOOK: u64 = 16;
 
-/// Whether it is time to go round a cycle: the looks since the last time have cost as much. It is asked after each four looks.
-fn is_time(clock: &StepClock, interval: u32, looks: u64) -> bool
+/// Whether steps of an interval from a period on reach one whose second, minute or hour is allowed, whichever a period is. No contract says that they do:
+/// it tells a cost.
+fn reaches(clock: &StepClock, number: u64, interval: u32) -> bool {
+    let (set, size) = match clock.per_day {
+        86_400 => (clock.seconds, 60),
+        1_440 => (clock.minutes, 60),
+        24 => (clock.hours, 24),
+        _ => return true,
+    };
+    let divisor = common_divisor(size, u64::from(interval)).max(1);
+    for own in 0..size {
+        if own % divisor == number % divisor && set.contains(own as u8) {
+            return true;
+        }
+    }
+    false
+}
+
+/// Whether it is time to go round a cycle: the looks since the last time have cost as much. It is asked after each four looks. After the last of them
+/// it is time if all have cost half as much.
+fn is_time(clock: &StepClock, interval: u32, looks: u64, is_last: bool) -> bool
     requires { 1 ≤ interval }
 {
     let fours = looks / 4;
     let each = LOOK + u64::from(clock.per_day / interval);
     let minutes = clock.minutes_of_cycle() * 2 / each / 4 + 1;
-    if fours % minutes > 0 {
+    if !is_last && fours % minutes > 0 {
         return false;
     }
     let periods = u64::from(clock.cycle) * u64::from(clock.per_day);
     let divisor = common_divisor(periods, u64::from(interval)).clamp(1, 60);
     let seconds = members_below(&clock.seconds, 60) / divisor / 2 + 1;
-    fours % (minutes * seconds) == 0
+    if is_last {
+        minutes * seconds <= looks / 2
+    } else {
+        fours % (minutes * seconds) == 0
+    }
 }
 
 /// A number of steps of INTERVAL, from the period with a number on, in whose periods a rule allows no local, by their times of day and weekdays.
 /// It is made to save looks: how many of those before the first that it allows are counted no clause says. If a period is longer than a day, 0.
-/// `looks` are those in vain so far.
-pub fn steps_out(parts: &EffectiveRule, number: u64, looks: u64) -> u64
+/// `looks` are those in vain so far, `is_last` says whether none follows.
+pub fn steps_out(parts: &EffectiveRule, number: u64, looks: u64, is_last: bool) -> u64
     requires number { number < 2 ^ 40 }
     requires interval { 1 ≤ parts.now.interval }
     ensures none { (k : ℕ) → k < result → IsClosed parts.now (number + k * parts.now.interval) }
@@ -252,7 +275,11 @@ pub fn steps_out(parts: &EffectiveRule, number: u64, looks: u64) -> u64
         short
     };
     let passed = clock.steps_passed(number, interval, most);
-    if passed < most || dated && !is_time(&clock, interval, looks) {
+    if passed < most {
+        return passed;
+    }
+    let in_vain = is_last && !reaches(&clock, number, interval);
+    if dated && !in_vain && !is_time(&clock, interval, looks, is_last) {
         return passed;
     }
     let Some(round) = Round::new(clock, number, interval) else {

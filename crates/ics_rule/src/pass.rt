@@ -228,8 +228,8 @@ pub(crate) fn next_open_step(
 /// After each so many looks in vain, a step is found by the times of a day and the weekdays.
 const SOME_LOOKS: u64 = 4;
 
-/// The first step from one on whose time of day is allowed and whose weekday is, as far as that is known.
-pub(crate) fn next_timed_step(search: &Search<'_>, step: u64, looks: u64) -> u64
+/// The first step from one on whose time of day is allowed and whose weekday is, as far as that is known after so many looks in vain.
+pub(crate) fn next_timed_step(search: &Search<'_>, step: u64, looks: u64, is_last: bool) -> u64
     requires { is_stepped search.now.first search.now.parts.now.interval step ≡ true }
     ensures { IsNextOpen search.now.parts.now search.now.first step result }
 {
@@ -237,7 +237,7 @@ pub(crate) fn next_timed_step(search: &Search<'_>, step: u64, looks: u64) -> u64
     if step >= RULES_END {
         return step;
     }
-    step + steps_out(parts, step, looks) * parts.interval as u64
+    step + steps_out(parts, step, looks, is_last) * parts.interval as u64
 }
 
 /// The same. After each so many looks in vain, steps are passed over whose time or weekday is not allowed.
@@ -259,5 +259,5 @@ pub(crate) fn next_step_after(
     if looks % SOME_LOOKS > 0 {
         return next;
     }
-    next_timed_step(search, next, looks)
+    next_timed_step(search, next, looks, false)
 }

@@ -28,7 +28,7 @@ fn step_from(search: &Search<'_>, own: u64, looks: u32) -> u64
 {
     let step = next_step(search.first, search.parts.interval, own);
     if looks % SOME_STEPS == 0 {
-        next_timed_step(search, step, u64::from(looks))
+        next_timed_step(search, step, u64::from(looks), looks == MANY_STEPS)
     } else {
         step
     }
