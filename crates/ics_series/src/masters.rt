@@ -245,13 +245,13 @@ fn series_at<'a>(
         since.max(begin),
         mark,
         resting,
-        keeps.then_some(place),
+        keeps,
         replaced,
     )?;
     Ok(Some(held))
 }
 
-/// The series of an event: the one that rests, begun again, or a new one. If it has a place to rest at, what is found of its rule is kept.
+/// The series of an event: the one that rests, begun again, or a new one. What is found of its rule is kept if asked for.
 fn series_of<'a>(
     alloc: Global,
     zones: FileZones<'a>,
@@ -260,7 +260,7 @@ fn series_of<'a>(
     since: Moment,
     mark: Option<Mark>,
     resting: Option<Box<Series<'a>>>,
-    place: Option<usize>,
+    keeps: bool,
     replaced: Replaced,
 ) -> Result<Box<Series<'a>>, AllocError>
     requires own { IsOwnEvent zones event.now }
@@ -273,7 +273,7 @@ fn series_of<'a>(
     ensures begun { IfOk result (λ series. MatchOption series.value.rule_starts (Unit {0}) (λ s. IsBegun s.rule s.from s.cursor)) }
 {
     match resting {
-        None => new_series(alloc, zones, event, window, since, mark, place, replaced),
+        None => new_series(alloc, zones, event, window, since, mark, keeps, replaced),
         Some(mut series) => {
             series.again(alloc, zones, event, window, since, mark, replaced)?;
             Ok(series)
@@ -290,7 +290,7 @@ fn new_series<'a>(
     window: Window,
     since: Moment,
     mark: Option<Mark>,
-    place: Option<usize>,
+    keeps: bool,
     replaced: Replaced,
 ) -> Result<Box<Series<'a>>, AllocError>
     requires own { IsOwnEvent zones event.now }
@@ -301,9 +301,10 @@ fn new_series<'a>(
     ensures sources { IfOk result (λ series. series_sources series.value ≡ source_of (clocks_in zones.entry) event.entry.now window since) }
     ensures begun { IfOk result (λ series. MatchOption series.value.rule_starts (Unit {0}) (λ s. IsBegun s.rule s.from s.cursor)) }
 {
-    let kept = match place {
-        None => None,
-        Some(place) => KeptLocals::new(alloc, event, place),
+    let kept = if keeps {
+        KeptLocals::new(alloc, event)
+    } else {
+        None
     };
     let series = Series::new(alloc, zones, event, window, since, mark, kept, replaced)?;
     let held = Box::new(alloc, series)?;

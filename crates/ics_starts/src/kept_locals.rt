@@ -52,8 +52,6 @@ struct Find {
 #[derive(Drop)]
 pub struct KeptLocals<'a> {
     event: &'a Event,
-    /// Where its owner keeps them.
-    place: usize,
     rule: SharedRule,
     /// Whether the event lasts so long, or a period of the rule is so dear, that finds are worth their place.
     keeps: bool,
@@ -206,8 +204,8 @@ fn append(finds: &mut Vec<Find>, more: &[Find], from: usize)
 }
 
 impl<'a> KeptLocals<'a> {
-    /// Those of an event with a rule: no local is known. Its owner keeps them at a place.
-    pub fn new(alloc: Global, event: &'a Event, place: usize) -> Option<Box<KeptLocals<'a>>>
+    /// Those of an event with a rule: no local is known.
+    pub fn new(alloc: Global, event: &'a Event) -> Option<Box<KeptLocals<'a>>>
         ensures { MatchOption result (Unit {0}) (λ kept. kept.value.event ≡ event.entry) }
     {
         let parts = *event.rule.as_ref()?.parts();
@@ -226,7 +224,6 @@ impl<'a> KeptLocals<'a> {
             alloc,
             KeptLocals {
                 event,
-                place,
                 rule: SharedRule::new(alloc, rule).ok()?,
                 keeps: dear || is_long(event),
                 known: Vec::new(alloc),
@@ -240,23 +237,11 @@ impl<'a> KeptLocals<'a> {
         .ok()
     }
 
-    /// The event.
-    pub fn event(&self) -> &'a Event
-        ensures { result ≡ self.now.event }
-    {
-        self.event
-    }
-
     /// Its rule, in the same memory.
     pub(crate) fn rule(&self) -> Result<SharedRule, AllocError>
         ensures { IfOk result (λ rule. recurrence_of self.now.event.now ≡ Some rule) }
     {
         self.rule.share()
-    }
-
-    /// Where its owner keeps them.
-    pub fn place(&self) -> usize {
-        self.place
     }
 
     /// Ends a search: what it has passed and found is known to the next, and so is what it has not reached.
