@@ -492,6 +492,10 @@ ROWS = [
     ('3 rules of four of these days, each day of ages, what began by each day left out',
      lambda: rules(3, 'FREQ=YEARLY;BYWEEKNO=%s;BYDAY=%s;BYSETPOS=1,100,200,300' % (listed(range(1, 54)), WEEK)),
      [*AGES[:3], '--notstarted'], 16, 32),
+    ('7 rules of seconds by thousands, a minute of each hour in two months, under COUNT, a day of 9700',
+     lambda: rules(7, 'FREQ=SECONDLY;INTERVAL=7025;BYMONTH=8,9;BYMINUTE=26;COUNT=4294967295'), ['9700-07-01', '1d'], 4, 32),
+    ('7 rules of even seconds that name an odd one and all weekdays, each day of a thousand years',
+     lambda: rules(7, 'FREQ=SECONDLY;INTERVAL=298;BYDAY=%s;BYSECOND=1' % WEEK), ['0001-01-05', '366000d', '--every-day'], 1, 32),
     ('400,000 faulty events, --keep-going', lambda: faulty(400_000), [*DAY, '--keep-going'], 12, 256),
 ]
 
