@@ -2,7 +2,7 @@
 ghost use Rattle.std.specs.Prelude.{◌≡◌};
 
 use ics_event::{Event, Length, Rdate, Time};
-use ics_fields::Until;
+use ics_fields::{Parts, Until};
 use ics_file::FileEvents;
 use ics_listing::{Window, local_of};
 use ics_starts::is_single;
@@ -104,16 +104,28 @@ fn note_shown_dates(display: &mut Display, event: &Event, window: &Window)
     }
 }
 
-/// Whether an event may ask for so many instants in a long window that it is worth while to find the stretches there: if it recurs more often than
-/// yearly, has many RDATEs, or lasts long.
+/// Whether an event may ask for so many instants in a long window that it is worth while to find the stretches there: if it recurs often, has many
+/// RDATEs, or lasts long.
 fn asks_often(event: &Event) -> bool {
     if event.rdates.len() > FEW || lasting_of(event) >= SHORT {
         return true;
     }
     match &event.rule {
         None => false,
-        Some(rule) => rule.parts().frequency != Frequency::Yearly,
+        Some(rule) => recurs_often(rule.parts()),
     }
+}
+
+/// Whether steps of a rule come some six times a year or more often. A clock mostly turns twice a year.
+fn recurs_often(parts: &Parts) -> bool {
+    let most = match parts.frequency {
+        Frequency::Yearly => 0,
+        Frequency::Monthly => 2,
+        Frequency::Weekly => 8,
+        Frequency::Daily => 60,
+        Frequency::Hourly | Frequency::Minutely | Frequency::Secondly => u32::MAX,
+    };
+    parts.interval <= most
 }
 
 /// Whether a time is read in the zone in which a listing is shown.
