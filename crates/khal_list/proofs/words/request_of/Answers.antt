@@ -29,3 +29,6 @@ returns-in_err-formats c =
     (has_window (subcommand_rows_of c.args.found.now) (display_said c.args.zone.now) c.args.now c.in-Some.window (search rules))
     (good_token (display_said c.args.zone.now) c.in-Some.window c.in_ok-after.after.once c.in_ok-after.after.every_day c.in_ok-after.ensures.ok)
     c.in_err-formats.ensures.bad
+
+pub returns : goal.returns
+returns c = rw c.in_ok-clone.ensures.same (search rules)
