@@ -1,6 +1,5 @@
 -- What looks up to its place leave of a cursor under COUNT.
-use Rattle.std.proofs.Common.{◌≡◌, ℕ, ◌+◌, ◌-◌, ◌*◌, ◌<◌, ◌≤◌, true, false, Option, None, min, refl, sym}
-use Rattle.std.proofs.Common.{subst, ap, ◌∙◌, arith}
+use Rattle.std.proofs.Common.{◌≡◌, ℕ, ◌+◌, ◌-◌, ◌*◌, ◌<◌, ◌≤◌, true, false, Option, Some, None, MatchOption, min, refl, sym, subst, ap, ◌∙◌, arith}
 use Rattle.std.proofs.lemmas.Bool.{cases_lt}
 use Rattle.std.proofs.lemmas.Bool.Decides.{nat_tests}
 use Rattle.jiff_core.specs.Weekday.{monday_zero}
@@ -10,7 +9,7 @@ use Rattle.ics_rule.specs.declared.cursor.Cursor.{Cursor}
 use Rattle.ics_period.specs.Candidates.{is_stepped, period_in}
 use Rattle.ics_period.specs.Ranks.{count, is_chosen}
 use Rattle.ics_period.specs.RecurrencePeriods.{first_local, IsPeriodOf}
-use Rattle.ics_rule.specs.Cursors.{fresh}
+use Rattle.ics_rule.specs.Cursors.{fresh, looks_from}
 use Rattle.ics_rule.specs.Inner.Searches.{is_chosen_within, IsNextOpen, IsTurned, IsUnderCount, IsWalked, after_look}
 use Rattle.ics_rule.specs.Inner.Rounds.{IsEvenRound, IsPassedTo, CountsFrom, HasCountedTo}
 use Rattle.std.proofs.Math.Nat.{mul-le-mul_right}
@@ -77,6 +76,34 @@ passed_on {q = q} {start = start} {target = target} {total = total} {before = be
       }) (omega (arith, moved.place, under.own.inside));
       moved = moved;
     })
+
+-- looks up to a place, and then more of them
+pub passed_twice : {q : EffectiveRule} {start : ℕ} {o : Option ℕ} {before between now : Cursor} → IsPassedTo q start o before between →
+    IsPassedTo q start o between now → IsPassedTo q start o before now
+passed_twice {start = start} {o = o} {before = before} {between = between} {now = now} first last = record {
+  own = last.own;
+  moved = record {
+    place = last.moved.place ∙ first.moved.place;
+    looks = (let a = first.moved.looks in let b = last.moved.looks in grind (arith, nat_tests));
+    begun = last.moved.begun;
+    steps = last.moved.steps;
+    looked = λ a b s few. last.moved.looked a b (omega (arith, s, first.moved.place)) record {
+      low = subst (λ x. a ≤ looks_from o start x) (sym first.moved.place) few.low;
+      few = first.moved.looked a b s few;
+    };
+  };
+}
+
+pub passed_under : {q : EffectiveRule} {start : ℕ} {o : Option ℕ} {before now : Cursor} → IsUnderCount q start o before → IsPassedTo q start o before now →
+    IsUnderCount q start o now
+passed_under under to = let same = to.moved.place in
+    record { count = under.count; some = under.some; after = omega (arith, under.after); early = omega (arith, under.early); own = to.own }
+
+-- looks up to a period, or to where COUNT keeps none later
+pub passed_through : {q : EffectiveRule} {start : ℕ} {o : Option ℕ} {before now : Cursor} (reached : Option ℕ) → MatchOption reached
+    (IsPassedTo q start o before now) (λ number. HasCountedTo q start o number before now) → IsPassedTo q start o before now
+passed_through None to = to
+passed_through (Some number) to = to.passed
 
 -- steps are few
 pub turned_room : {q : EffectiveRule} {start number : ℕ} {o : Option ℕ} {before after : Cursor} → HasCountedTo q start o number before after →

@@ -8,6 +8,7 @@ ghost use Rattle.ics_rule.specs.Inner.Rounds.{seconds_of, calendar_periods, IsCa
 
 use crate::cursor::Cursor;
 use crate::search::Search;
+use crate::walk::next_step;
 use ics_fields::Frequency;
 use ics_period::{EffectiveRule, goes_by_months, names_weekdays_alone, period_of};
 
@@ -198,7 +199,8 @@ impl Cursor {
     }
 
     /// Counts what is chosen in the periods up to that of the place, and looks at one of the last of them: by whole rounds if these are
-    /// short or a period is longer than a day, and else by whole days. Nothing changes if neither can be done.
+    /// short or a period is longer than a day, and else by whole days. If neither can be done, at most the first two periods are passed.
+    #[tactic(auto, using(crate::proofs::PassedLemmas::passed_under))]
     pub(crate) fn pass_periods(&mut self, search: &Search<'_>)
         requires cursor { IsUnderCount search.now.parts.now search.now.start search.now.count self.old }
         ensures { IsPassedTo search.now.parts.now search.now.start search.now.count self.old self.new }
@@ -208,10 +210,25 @@ impl Cursor {
         }
         let unit = seconds_of(search.parts.frequency);
         if unit == 0 || unit > 86_400 || repeats_soon(search) {
+            self.pass_first(search);
             self.pass_rounds(search);
         } else {
             self.pass_open(search);
         }
+    }
+
+    /// Looks at the first step that is neither in the first period of all nor in the second, if that of the place is no earlier: no round begins
+    /// sooner.
+    fn pass_first(&mut self, search: &Search<'_>)
+        requires cursor { IsUnderCount search.now.parts.now search.now.start search.now.count self.old }
+        ensures { IsPassedTo search.now.parts.now search.now.start search.now.count self.old self.new }
+    {
+        let (begin, _) = self.counted_from(search.first);
+        let end = next_step(search.first, search.parts.interval, 2);
+        if begin >= end || end > period_of(search.parts, self.place) {
+            return;
+        }
+        self.turn_through(search, begin, end, u32::MAX);
     }
 
     /// Counts the first round, from the period held or from the start's on. Then looks at the last period up to the place that is whole
