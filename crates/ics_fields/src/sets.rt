@@ -1,5 +1,5 @@
 //! Sets of small numbers, as words of bits.
-ghost use Rattle.std.specs.Prelude.{◌≡◌, ◌≢◌, ℕ, ◌<◌, ◌==◌, ◌↔◌, ◌||◌, ◌*◌, ◌&&◌, nat_lt, length, IsTrue, ◌^◌, ◌≤◌, IfSome};
+ghost use Rattle.std.specs.Prelude.{◌≡◌, ◌≢◌, ℕ, ◌<◌, ◌==◌, ◌↔◌, ◌||◌, ◌*◌, ◌%◌, ◌&&◌, nat_lt, length, IsTrue, ◌^◌, ◌≤◌, IfSome, get_or, count_ones};
 ghost use Rattle.ics_fields.specs.Sets.{contains, is_empty, only, with_number, contains_wide, is_empty_wide, none_wide, with_wide_number, IsNextIn};
 
 use std::marker::Model;
@@ -88,6 +88,17 @@ impl BitSet {
         Some(n + rest.trailing_zeros() as u8)
     }
 
+    /// How many members are below `n`.
+    pub fn ones_below(self, n: u16) -> u32
+        ensures { result ≡ count_ones (self % 2 ^ n) }
+    {
+        if n < 64 {
+            (self.bits % (1 << n)).count_ones()
+        } else {
+            self.bits.count_ones()
+        }
+    }
+
     /// Adds `n`.
     pub fn insert(&mut self, n: u8)
         requires { n < 64 }
@@ -152,6 +163,16 @@ impl WideBitSet {
             from = 0;
         }
         None
+    }
+
+    /// The members from `64 * place` on and below `64 * place + 64`, counted from the first of these numbers.
+    pub fn word(&self, place: u16) -> BitSet
+        requires { place < 6 }
+        ensures { result ≡ get_or self.now place 0 }
+    {
+        BitSet {
+            bits: self.words[place as usize],
+        }
     }
 
     /// Adds `n`.
