@@ -1,6 +1,11 @@
 -- Laws of counting, by which places and counts are found without walking each second.
-use Rattle.std.proofs.Common.{◌≡◌, ℕ, zero, suc, ◌+◌, ◌-◌, ◌*◌, ◌/◌, ◌%◌, ◌<◌, ◌≤◌, Bool, true, false, ◌&&◌, cond, refl, ap, ◌∙◌, arith}
-use Rattle.std.proofs.lemmas.Nat.{div-mul-add, mod-mul-add}
+use Rattle.std.proofs.Common.{◌≡◌, ℕ, zero, suc, ◌+◌, ◌-◌, ◌*◌, ◌/◌, ◌%◌, ◌^◌, ◌<◌, ◌≤◌, Bool, true, false, ◌==◌, ◌&&◌, cond, List, get_or, nat_lt}
+use Rattle.std.proofs.Common.{count_ones, refl, sym, ap, ◌∙◌, arith}
+use Rattle.std.proofs.lemmas.Bool.Decides.{nat_tests}
+use Rattle.std.proofs.lemmas.Nat.{div-mul-add, mod-mul-add, mod-pow-add, ones_cat, pow_pos}
+use Rattle.std.proofs.Math.Nat.{add_comm, mod-lt}
+use Rattle.std.specs.Int.Count.{ones-ones}
+use Rattle.ics_fields.specs.Sets.{contains, contains_wide}
 use Rattle.ics_period.specs.Ranks.{count}
 
 -- tests that agree below n count alike
@@ -85,3 +90,41 @@ pub count_every : (n : ℕ) → count n (λ m. true) ≡ n
 unfolding count
 count_every zero = refl
 count_every (suc n) = omega (arith, count_every n)
+
+-- the digits of a word below a number are counted as its members are
+ones_of_digit : (b : ℕ) → b < 2 → count_ones b ≡ cond (b == 1) 1 0
+ones_of_digit zero h = ones-ones 0
+ones_of_digit (suc zero) h = ones-ones 1
+ones_of_digit (suc (suc b)) h = absurd (omega (arith, h))
+
+pub count_of_ones : (n s : ℕ) → count_ones (s % 2 ^ n) ≡ count n (contains s)
+unfolding count
+count_of_ones zero s = let none : s % 2 ^ 0 ≡ 0 = omega arith in ap count_ones none ∙ ones-ones 0
+count_of_ones (suc n) s =
+    let e : suc n ≡ 1 + n = omega arith in
+    let digit : s / 2 ^ n % 2 < 2 = omega arith in
+    ap (λ x. count_ones (s % 2 ^ x)) e
+    ∙ ap count_ones (mod-pow-add s 1 n)
+    ∙ ones_cat n (s / 2 ^ n % 2) (s % 2 ^ n) (mod-lt s (pow_pos n))
+    ∙ ap (λ x. x + count_ones (s % 2 ^ n)) (ones_of_digit (s / 2 ^ n % 2) digit)
+    ∙ ap (λ x. cond (s / 2 ^ n % 2 == 1) 1 0 + x) (count_of_ones n s)
+    ∙ add_comm (cond (s / 2 ^ n % 2 == 1) 1 0) (count n (contains s))
+
+-- the members of a list of words, up to a place in a word
+module _ (ws : List ℕ) (place n : ℕ) (inside : place < 6) (short : n ≤ 64) where
+  in_word : (m : ℕ) → m < n → contains_wide ws (place * 64 + m) ≡ contains (get_or ws place 0) m
+  in_word m h =
+      let small : m < 64 = omega (arith, short, h) in
+      let low : nat_lt (place * 64 + m) 384 ≡ true = grind (arith, nat_tests) in
+      ap (λ x. x && contains (get_or ws ((place * 64 + m) / 64) 0) ((place * 64 + m) % 64)) low
+      ∙ ap (λ w. contains (get_or ws w 0) ((place * 64 + m) % 64)) (div-mul-add place 64 m small)
+      ∙ ap (contains (get_or ws place 0)) (mod-mul-add place 64 m small)
+
+  pub count_to_word : {total word ones : ℕ} → total ≡ count (place * 64) (contains_wide ws) → word ≡ get_or ws place 0 → ones ≡ count_ones (word % 2 ^ n) →
+      total + ones ≡ count (place * 64 + n) (contains_wide ws)
+  count_to_word {total = total} {ones = ones} before is digits =
+      let one = digits ∙ ap (λ w. count_ones (w % 2 ^ n)) is ∙ count_of_ones n (get_or ws place 0) in
+      let same = count-same n (λ k. contains_wide ws (place * 64 + k)) (contains (get_or ws place 0)) in_word in
+      ap (λ x. x + ones) before
+      ∙ ap (λ x. count (place * 64) (contains_wide ws) + x) (one ∙ sym same)
+      ∙ sym (count-add (place * 64) n (contains_wide ws))

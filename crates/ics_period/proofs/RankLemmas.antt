@@ -1,6 +1,6 @@
 -- Members by their number, and the members at listed places.
 use Rattle.std.proofs.Common.{◌≡◌, ℕ, zero, suc, ◌+◌, ◌-◌, ◌*◌, ◌/◌, ◌%◌, ◌<◌, ◌≤◌, inl, inr, Bool, true, false, cond, ◌&&◌, refl, sym, ◌∙◌, arith}
-use Rattle.std.proofs.lemmas.Bool.{cases_lt}
+use Rattle.std.proofs.lemmas.Bool.{cases_lt, false_from_ne_true}
 use Rattle.std.proofs.lemmas.Nat.{div-add-mod'}
 use Rattle.std.proofs.Math.Nat.{mod-lt, mul-le-mul_right}
 use Rattle.std.proofs.lemmas.Bool.Decides.{nat_tests}
@@ -9,7 +9,7 @@ use Rattle.ics_period.specs.Ranks.{count}
 use Rattle.ics_period.specs.RecurrencePeriods.{IsNth, is_listed}
 use Rattle.ics_period.specs.Candidates.{lists_wide}
 use Rattle.ics_fields.specs.declared.ordinals.WideOrdinals.{WideOrdinals}
-use Rattle.ics_period.proofs.Counts.{count-suc, count-add, count-none, count_mono, count_one_more, count_one, count_none_at}
+use Rattle.ics_period.proofs.Counts.{count-suc, count-add, count-none, count_mono, count_one_more, count_one, count_none_at, count_some}
 
 -- what no number between two passes counts alike up to both
 pub count_flat : (a b : ℕ) (test : ℕ → Bool) → a ≤ b → ((m : ℕ) → a ≤ m → m < b → test m ≡ false) → count b test ≡ count a test
@@ -25,8 +25,35 @@ module _ (test : ℕ → Bool) (place passed n : ℕ) (next : IsLeastFrom test p
   pub nth_next : passed + 1 ≡ count (n + 1) test
   nth_next = grind (arith, before_next, count-suc n test, count_one (test n) next.passes)
 
-pub nth_done : (test : ℕ → Bool) (place passed bound : ℕ) → ((m : ℕ) → place ≤ m → test m ≡ false) → passed ≡ count place test → count bound test ≤ passed
-nth_done test place passed bound none own = grind (arith, cases_lt, count_flat, count_mono)
+-- where a range of one number has the k-th member, that is it
+pub nth_last : (test : ℕ → Bool) (k low width : ℕ) → (count low test ≤ k) × ((k < count (low + width) test) × ((low + width ≤ 384) × (1 ≤ width))) →
+    width ≤ 1 → IsNth test k low
+nth_last test k low width is h = step (test low) refl
+  where
+    up : k < count (suc low) test
+    up = let one : low + width ≡ suc low = omega (arith, is, h) in rw one at is.1.0
+
+    step : (b : Bool) → test low ≡ b → IsNth test k low
+    step true e = record { passes = e; before = omega (arith, is.0, up, count-suc low test, count_one (test low) e) }
+    step false e = absurd (omega (arith, is.0, up, count-suc low test, count_none_at (test low) e))
+
+-- the last that passes below a bound, and nothing from there to the bound
+pub last_below : (test : ℕ → Bool) (bound : ℕ) {m : ℕ} → IsNth test (count bound test - 1) m → 1 ≤ count bound test → m < bound
+last_below test bound {m} last some = elim (cases_lt m bound) [
+  | inl l ↦ l
+  | inr g ↦ absurd (let up = count_mono bound m test g in omega (arith, last.before, up, some))
+]
+
+pub none_past_last : (test : ℕ → Bool) (bound : ℕ) {m k : ℕ} → IsNth test (count bound test - 1) m → m < k → k < bound → test k ≡ false
+none_past_last test bound {m} {k} last after h = false_from_ne_true (test k) (λ yes.
+    let one = count_one_more m m test (omega arith) last.passes in
+    let up = count_mono (suc m) k test after in
+    let more = count_one_more k k test (omega arith) yes in
+    let all = count_mono (suc k) bound test h in
+    omega (arith, last.before, one, up, more, all))
+
+pub none_below : (test : ℕ → Bool) (bound k : ℕ) → count bound test ≡ 0 → k < bound → test k ≡ false
+none_below test bound k none h = false_from_ne_true (test k) (λ yes. let some = count_some bound k test h yes in omega (arith, none, some))
 
 -- an index of a product, by the size of a block
 pub block_index : (k a s : ℕ) → k < a * s → (k / s < a) × (k % s < s)

@@ -77,8 +77,8 @@ abbrev pub IsNextBelow : (ℕ → Bool) → ℕ → ℕ → Option ℕ → Type 
 IsNextBelow test from size o =
     MatchOption o ((k : ℕ) → from ≤ k → k < size → test k ≡ false) (λ k. IsLeastFrom test from k × (k < size))
 
--- the first index, from a given one on, at which a set lists the place after it, or size
-pub record IsFirstListed (front : List ℕ) (from size end : ℕ) : Type 0 where
-  pub none : (k : ℕ) → from ≤ k → k < end → contains_wide front (k + 1) ≡ false
+-- the first index, from a given one on, that passes a test, or size
+pub record IsFirstBelow (test : ℕ → Bool) (from size end : ℕ) : Type 0 where
+  pub none : (k : ℕ) → from ≤ k → k < end → test k ≡ false
   pub high : end ≤ size
-  pub found : end < size → (from ≤ end) × (contains_wide front (end + 1) ≡ true)
+  pub found : end < size → (from ≤ end) × (test end ≡ true)

@@ -8,51 +8,51 @@ use ics_fields::{BitSet, WideBitSet};
 
 /// A set of numbers below 384.
 pub trait Members {
-    ghost use Rattle.std.specs.Prelude.{ℕ, Bool, ◌<◌, IfSome};
-    ghost use Rattle.ics_fields.specs.Sets.{IsNextIn};
+    ghost use Rattle.std.specs.Prelude.{ℕ, Bool, ◌≡◌, ◌≤◌};
+    ghost use Rattle.ics_period.specs.Ranks.{count};
 
     /// Whether a number is a member.
     ghost has: { Self → ℕ → Bool };
 
-    /// The least member from `n` on.
-    fn member_from(&self, n: u16) -> Option<u16>
-        ensures next { IsNextIn (Self.has self.now) n result }
-        ensures small { IfSome result (λ m. m < 384) };
+    /// How many members are below `n`.
+    fn count_below(&self, n: u16) -> u64
+        requires { n ≤ 384 }
+        ensures { result ≡ count n (Self.has self.now) };
 }
 
 impl Members for BitSet {
     ghost has = { contains };
 
-    fn member_from(&self, n: u16) -> Option<u16> {
-        let member = self.next_from(n.min(64) as u8)?;
-        Some(member as u16)
+    #[tactic(auto, using(crate::proofs::Counts::count_of_ones))]
+    fn count_below(&self, n: u16) -> u64 {
+        self.ones_below(n) as u64
     }
 }
 
 impl Members for WideBitSet {
     ghost has = { contains_wide };
 
-    fn member_from(&self, n: u16) -> Option<u16> {
-        self.next_from(n)
+    fn count_below(&self, n: u16) -> u64 {
+        let mut total = 0;
+        for place in 0..n / 64 {
+            total += self.word(place).ones_below(64) as u64;
+        }
+        let rest = n % 64;
+        if rest == 0 {
+            return total;
+        }
+        total + self.word(n / 64).ones_below(rest) as u64
     }
 }
 
 /// How many members of a set are below `n`, which is at most 384.
+#[tactic(auto, using(crate::proofs::Counts::count_most))]
 pub fn members_below<S: Members>(set: &S, n: u16) -> u64
     requires { n ≤ 384 }
     ensures value { result ≡ count n (S.has set.now) }
     ensures bound { result ≤ n }
 {
-    let mut place = 0;
-    let mut total = 0;
-    while let Some(member) = set.member_from(place) {
-        if member >= n {
-            return total;
-        }
-        total += 1;
-        place = member + 1;
-    }
-    total
+    set.count_below(n)
 }
 
 /// The `k`-th member of a set, from 0.
@@ -61,14 +61,16 @@ pub(crate) fn nth_member<S: Members>(set: &S, k: u64) -> u16
     ensures nth { IsNth (S.has set.now) k result }
     ensures small { result < 384 }
 {
-    let mut place = 0;
-    let mut passed = 0;
-    while let Some(member) = set.member_from(place) {
-        if passed == k {
-            return member;
+    let mut low = 0;
+    let mut width = 384;
+    while width > 1 {
+        let half = width / 2;
+        if set.count_below(low + half) > k {
+            width = half;
+        } else {
+            low += half;
+            width -= half;
         }
-        passed += 1;
-        place = member + 1;
     }
-    0
+    low
 }

@@ -1,10 +1,10 @@
 //! The members of a set by their rank, and the places that BYSETPOS lists.
-ghost use Rattle.std.specs.Prelude.{◌≡◌, ◌<◌, ◌≤◌, ◌+◌, ◌*◌, ◌/◌, ◌%◌, ◌^◌, IfSome};
-ghost use Rattle.ics_fields.specs.Sets.{contains, IsNextIn};
+ghost use Rattle.std.specs.Prelude.{◌≡◌, ◌<◌, ◌≤◌, ◌+◌, ◌-◌, ◌*◌, ◌/◌, ◌%◌, ◌^◌, IfSome};
+ghost use Rattle.ics_fields.specs.Sets.{contains, contains_wide, IsNextIn};
 ghost use Rattle.ics_fields.specs.Ordinals.{lists_none_wide};
 ghost use Rattle.ics_period.specs.declared.effective_rule.EffectiveRule.{EffectiveRule};
 ghost use Rattle.ics_period.specs.Ranks.{count};
-ghost use Rattle.ics_period.specs.RecurrencePeriods.{has_minute, has_second, holds, is_listed, is_taken, IsPeriodOf, IsNth, IsNextBelow, IsFirstListed};
+ghost use Rattle.ics_period.specs.RecurrencePeriods.{has_minute, has_second, holds, is_listed, is_taken, IsPeriodOf, IsNth, IsNextBelow, IsFirstBelow};
 ghost use Rattle.ics_fields.specs.Locals.{calendar_end};
 
 use crate::members::{members_below, nth_member};
@@ -26,7 +26,7 @@ fn nth_minute(hours: BitSet, minutes: BitSet, k: u64) -> u32
 /// The first index from `from` on at which a set lists the place after it, or `size` if there is none before that.
 fn next_front(front: &WideBitSet, from: u64, size: u64) -> u64
     requires { size < 2 ^ 63 }
-    ensures { IsFirstListed front.now from size result }
+    ensures { IsFirstBelow (λ k. contains_wide front.now (k + 1)) from size result }
 {
     match front.next_from(from.min(383) as u16 + 1) {
         Some(place) => size.min(place as u64 - 1),
@@ -34,18 +34,28 @@ fn next_front(front: &WideBitSet, from: u64, size: u64) -> u64
     }
 }
 
+/// The first index from `from` on at which a set lists the place from the end, of `size`, or `size` if there is none.
+fn next_back(back: &WideBitSet, from: u64, size: u64) -> u64
+    requires { size < 2 ^ 63 }
+    ensures { IsFirstBelow (λ k. contains_wide back.now (size - k)) from size result }
+{
+    let most = size.saturating_sub(from).min(383);
+    let members = members_below(back, most as u16 + 1);
+    if members == 0 {
+        return size;
+    }
+    size - nth_member(back, members - 1) as u64
+}
+
 /// The least index from `from` on, of `size`, whose place BYSETPOS lists.
 fn next_listed(positions: &WideOrdinals, from: u64, size: u64) -> Option<u64>
     requires { size < 2 ^ 63 }
     ensures { IsNextBelow (is_listed positions.now size) from size result }
 {
-    let end = next_front(&positions.front, from, size);
-    for k in from.max(size.saturating_sub(383))..end {
-        if positions.back.contains((size - k) as u16) {
-            return Some(k);
-        }
-    }
-    if end < size { Some(end) } else { None }
+    let front = next_front(&positions.front, from, size);
+    let back = next_back(&positions.back, from, size);
+    let next = front.min(back);
+    if next < size { Some(next) } else { None }
 }
 
 /// How many of the first `k` places of `size` BYSETPOS lists.

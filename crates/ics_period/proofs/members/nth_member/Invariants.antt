@@ -1,9 +1,10 @@
-use Rattle.std.proofs.Common.{◌≡◌, ◌-◌, ◌≤◌}
+use Rattle.std.proofs.Common.{◌+◌, ◌<◌, ◌≤◌}
 use Rattle.ics_period.specs.Ranks.{count}
 use Rattle.ics_period.proofs.members.nth_member.Given as goal
 
-abbrev pub invariant-loop-member : goal.invariant-loop-member
-invariant-loop-member g l = (l.passed ≡ count l.place (g.S.Members.has l.set)) × (l.passed ≤ l.k)
+abbrev pub invariant-loop-width : goal.invariant-loop-width
+invariant-loop-width g l = (count l.low (g.S.Members.has l.set) ≤ l.k) × ((l.k < count (l.low + l.width) (g.S.Members.has l.set))
+    × ((l.low + l.width ≤ 384) × (1 ≤ l.width)))
 
-abbrev pub decreases-loop-member : goal.decreases-loop-member
-decreases-loop-member g l = 384 - l.place
+abbrev pub decreases-loop-width : goal.decreases-loop-width
+decreases-loop-width g l = l.width
