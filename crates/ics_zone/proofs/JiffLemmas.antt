@@ -3,11 +3,13 @@ use Rattle.std.proofs.Common.{◌≡◌, ℤ, pos, ◌-ℤ◌, ◌*ℤ◌, refl,
 use Rattle.jiff.proofs.SpanFacts.{signed_arith}
 use Rattle.jiff.specs.Words.{nanos_of_seconds, civil_nanos, picked_instant, ambiguous_at, compatible_offset}
 use Rattle.jiff_core.specs.declared.civil.datetime.DateTime.{DateTime}
+use Rattle.jiff_core.specs.declared.offset.Offset.{Offset}
 use Rattle.jiff_tz.specs.Zone.{offset_at}
 use Rattle.jiff_tz.specs.declared.timezone.TimeZone.{TimeZone}
 use Rattle.jiff_tz.specs.declared.timezone.TimeZone.TheVariants.{UTC, Unknown, Fixed, Posix, Tzif}
 use Rattle.ics_zone.specs.JiffZones.{plain_said, offset_of, IsCompatible, IsOffsetIn, IsMomentIn}
-use Rattle.ics_zone.specs.ZoneSaid.{ZoneSaid, said_offset, said_moment}
+use Rattle.ics_zone.specs.ZoneSaid.{ZoneSaid, jiff_said, said_offset, said_moment}
+use Rattle.ics_zone.specs.declared.jiff_zone.JiffZone.TheVariants as own
 use Rattle.ics_zone.proofs.FileLemmas.{rule_offset_is, rule_reading_is, file_offset_is, file_reading_is}
 
 pub plain_offset : (zone : TimeZone) (t : ℤ) → offset_of zone t ≡ said_offset (plain_said zone) t
@@ -89,3 +91,12 @@ module _ (zone : TimeZone) (said : ZoneSaid) (same : plain_said zone ≡ said) w
   pub picked_moment : (local t : ℤ) → IsMomentIn said local t → t ≡ said_moment said local → IsCompatible zone local (said_moment said local)
   picked_moment local t means is =
       subst (IsCompatible zone local) is (moment_out zone local t (subst (λ z. IsMomentIn z local t) (sym same) means))
+
+-- a zone of one offset has it at each instant
+pub fixed_means : (offset : Offset) (t : ℤ) → IsOffsetIn (jiff_said (own.Fixed offset)) t offset.seconds
+unfolding offset_at jiff_said
+fixed_means offset t = (Fixed offset, refl, refl)
+
+pub fixed_offset : (offset : Offset) (t : ℤ) → offset.seconds ≡ said_offset (jiff_said (own.Fixed offset)) t
+unfolding jiff_said said_offset
+fixed_offset offset t = refl

@@ -64,6 +64,9 @@ impl JiffZone {
         ensures means { IsOffsetIn (jiff_said self.now) moment result }
         ensures value { result ≡ said_offset (jiff_said self.now) moment }
     {
+        if let JiffZone::Fixed(offset) = self {
+            return offset.seconds;
+        }
         let zone = self.zone();
         let instant = Timestamp::from_second(moment).unwrap();
         zone.to_offset(instant).seconds()
