@@ -92,7 +92,7 @@ module _ (zone : TimeZone) (said : ZoneSaid) (same : plain_said zone ≡ said) w
   picked_moment local t means is =
       subst (IsCompatible zone local) is (moment_out zone local t (subst (λ z. IsMomentIn z local t) (sym same) means))
 
--- a zone of one offset has it at each instant
+-- a zone of one offset has it at each instant, and a local means the instant that is earlier by it
 pub fixed_means : (offset : Offset) (t : ℤ) → IsOffsetIn (jiff_said (own.Fixed offset)) t offset.seconds
 unfolding offset_at jiff_said
 fixed_means offset t = (Fixed offset, refl, refl)
@@ -100,3 +100,7 @@ fixed_means offset t = (Fixed offset, refl, refl)
 pub fixed_offset : (offset : Offset) (t : ℤ) → offset.seconds ≡ said_offset (jiff_said (own.Fixed offset)) t
 unfolding jiff_said said_offset
 fixed_offset offset t = refl
+
+pub fixed_moment : (offset : Offset) (local : ℤ) → local -ℤ offset.seconds ≡ said_moment (jiff_said (own.Fixed offset)) local
+unfolding jiff_said said_moment
+fixed_moment offset local = refl

@@ -46,6 +46,11 @@ impl JiffZone {
         })
     }
 
+    /// Whether the zone has one offset alone.
+    pub fn is_fixed(&self) -> bool {
+        matches!(self, JiffZone::Fixed(_))
+    }
+
     /// The zone as jiff has it.
     #[tactic(auto, unfolding(crate::specs::ZoneSaid::jiff_said))]
     fn zone(&self) -> TimeZone<'_>
@@ -78,6 +83,10 @@ impl JiffZone {
         ensures means { IsMomentIn (jiff_said self.now) (seconds_at local.day local.second) result }
         ensures value { result ≡ said_moment (jiff_said self.now) (seconds_at local.day local.second) }
     {
+        if let JiffZone::Fixed(offset) = self {
+            self.picks(local);
+            return local.seconds() - offset.seconds as i64;
+        }
         let zone = self.zone();
         let instant = zone.to_timestamp(datetime(local)).unwrap();
         instant.as_second()

@@ -93,11 +93,12 @@ impl LearnedZone {
     }
 
     /// Finds the stretches between the instants that were noted, at most so many, so that answers are faster. None changes.
+    /// A zone of one offset needs none.
     pub fn learn(&mut self, most: usize)
         ensures { self.new ≡ self.old }
     {
         let (from, to) = self.through;
-        if from > to {
+        if from > to || self.zone.is_fixed() {
             return;
         }
         self.through = NOWHERE;
