@@ -1,7 +1,7 @@
 //! The times of an entry, in eleven columns.
-ghost use Rattle.std.specs.Prelude.{◌≡◌, ◌<◌, ◌++◌, OnOk};
+ghost use Rattle.std.specs.Prelude.{◌≡◌, ◌++◌, OnOk};
 ghost use Rattle.ics_fields.specs.Locals.{local_seconds};
-ghost use Rattle.khal_list.specs.Text.{two_digits, second_of, time_text, start_text, finish_text, times_text, is_end_of};
+ghost use Rattle.khal_list.specs.Text.{second_of, time_text, start_text, finish_text, times_text, is_end_of};
 
 use ics_values::Local;
 use std::alloc::AllocError;
@@ -9,22 +9,20 @@ use std::alloc::AllocError;
 /// What is written for a time on another day.
 const BLANK: &[u8] = b"     ";
 
-/// Adds a number below 100 in two digits.
-fn add_two_digits(text: &mut Vec<u8>, number: u8) -> Result<(), AllocError>
-    requires { number < 100 }
-    ensures { OnOk result (text.new.items ≡ text.old.items ++ two_digits number) }
-{
-    text.extend_from_slice(&[b'0' + number / 10, b'0' + number % 10])
-}
-
 /// Adds the time of a local as `HH:MM`, the seconds left off.
 pub(crate) fn add_time(text: &mut Vec<u8>, local: Local) -> Result<(), AllocError>
     ensures { OnOk result (text.new.items
         ≡ text.old.items ++ time_text (second_of (local_seconds local))) }
 {
-    add_two_digits(text, (local.second / 3_600) as u8)?;
-    text.push(b':')?;
-    add_two_digits(text, (local.second / 60 % 60) as u8)
+    let hour = (local.second / 3_600) as u8;
+    let minute = (local.second / 60 % 60) as u8;
+    text.extend_from_slice(&[
+        b'0' + hour / 10,
+        b'0' + hour % 10,
+        b':',
+        b'0' + minute / 10,
+        b'0' + minute % 10,
+    ])
 }
 
 /// Adds the time of a start, or blanks if it is on another day than the entry's.
