@@ -10,8 +10,7 @@ use Rattle.ics_rule.specs.declared.cursor.Cursor.{Cursor}
 use Rattle.ics_period.specs.Candidates.{is_stepped, period_in}
 use Rattle.ics_period.specs.Ranks.{count, is_chosen}
 use Rattle.ics_period.specs.RecurrencePeriods.{first_local, IsPeriodOf}
-use Rattle.ics_rule.specs.Cursors.{is_met, fresh, HeldBy, CountedBy, IsCursorIn, HasLookedIn, period_count, steps_of, IsCursorOf}
-use Rattle.ics_rule.specs.Cursors.{HasLooked}
+use Rattle.ics_rule.specs.Cursors.{is_met, fresh, HeldBy, CountedBy, IsCursorIn, HasLookedIn, period_count, steps_of, IsCursorOf, HasLooked}
 use Rattle.ics_period.specs.EffectiveRules.{effective}
 use Rattle.ics_period.specs.Recurrence.{Recurrence}
 use Rattle.ics_rule.specs.Inner.Searches.{is_chosen_within, is_wanted, HasMoved, IsWalked, LooksAt, after_look}
@@ -22,8 +21,7 @@ use Rattle.ics_fields.specs.Locals.{calendar_end, number}
 
 -- a period that lies a multiple of the interval from the start's is met by a local of it
 module _ (q : EffectiveRule) (start a b : ℕ) where
-  met_by : (p n : ℕ) → a ≤ n → n < b → period_in q n ≡ p → is_stepped (period_in q start) q.interval p ≡ true →
-      is_met q start a b p ≡ true
+  met_by : (p n : ℕ) → a ≤ n → n < b → period_in q n ≡ p → is_stepped (period_in q start) q.interval p ≡ true → is_met q start a b p ≡ true
   met_by p n l u e step =
       let some = count_some b n (λ m. nat_le a m && period_in q m == p) u (grind (arith, nat_tests)) in grind (arith, nat_tests)
 
@@ -42,8 +40,7 @@ module _ (q : EffectiveRule) (start a b : ℕ) where
 
 -- a look that no earlier look has reached
 pub looks_once : {number : ℕ} (counted : ℕ) (before : Cursor) {now : Cursor} (p : RecurrencePeriod) → fresh before.held ≤ number
-    → now ≡ after_look before p counted →
-    p.number ≡ number → LooksAt number before now
+    → now ≡ after_look before p counted → p.number ≡ number → LooksAt number before now
 looks_once counted before p h e same = grind (arith, nat_tests, begun, count_one_more)
 
 -- a cursor before its looks

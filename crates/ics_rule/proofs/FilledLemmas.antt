@@ -24,8 +24,7 @@ use Rattle.ics_rule.proofs.MostLemmas.{days_size, from_first, is_day, none_place
 -- as many days are allowed k times 400 years later
 days_again : (q : EffectiveRule) (k a len : ℕ) → 1 ≤ k
     → count (a + 146_097 * k + len) (is_open_from q (a + 146_097 * k)) ≡ count (a + len) (is_open_from q a)
-days_again q k a len some =
-    from_first q (a + 146_097 * k) len ∙ count-same len (λ j. lets_date q (a + 146_097 * k + j)) (λ j. lets_date q (a + j))
+days_again q k a len some = from_first q (a + 146_097 * k) len ∙ count-same len (λ j. lets_date q (a + 146_097 * k + j)) (λ j. lets_date q (a + j))
     (λ j l. ap (lets_date q) (let e : a + 146_097 * k + j ≡ a + j + 146_097 * k = omega arith in e) ∙ date_again q k (a + j) some)
     ∙ sym (from_first q a len)
 

@@ -24,14 +24,12 @@ days_from e (suc n) = e ∷ days_from (e + 1) n
 -- tests that agree on the days keep the same of them
 filter-same : (f g : ℕ → Bool) (e n : ℕ) → ((d : ℕ) → e ≤ d → d < e + n → f d ≡ g d) → filter f (days_from e n) ≡ filter g (days_from e n)
 filter-same f g e zero same = refl
-filter-same f g e (suc n) same =
-    ap (λ b. cond b (e ∷ filter f (days_from (e + 1) n)) (filter f (days_from (e + 1) n))) (same e (omega arith) (omega arith))
+filter-same f g e (suc n) same = ap (λ b. cond b (e ∷ filter f (days_from (e + 1) n)) (filter f (days_from (e + 1) n))) (same e (omega arith) (omega arith))
     ∙ ap (λ ds. cond (g e) (e ∷ ds) ds) (filter-same f g (e + 1) n (λ d l h. same d (omega arith) (omega arith)))
 
 -- BYSETPOS lists the local of a set on day k from a on, by counting the days from a on and before b
 abbrev pub nth_day : (ℕ → Bool) → ℕ → ℕ → ℕ → WideOrdinals → ℕ → Bool
-nth_day set a b t positions k =
-    contains_wide positions.front (count (suc k) (λ j. set ((a + j) * 86_400 + t)))
+nth_day set a b t positions k = contains_wide positions.front (count (suc k) (λ j. set ((a + j) * 86_400 + t)))
     || contains_wide positions.back (count (b - a) (λ j. set ((a + j) * 86_400 + t)) - count k (λ j. set ((a + j) * 86_400 + t)))
 
 -- what passes lies on the days from a on and before b, at second t of the day
@@ -73,8 +71,7 @@ pub record IsMonthly (r : Recurrence) (p : ℕ) : Type 0 where
 
 -- a day of the month at 9:00 is in the rule, by the days
 abbrev pub by_days : Recurrence → ℕ → ℕ → ℕ → ℕ → Bool
-by_days r p a b e =
-    e * 86_400 + 32_400 == number r.start
+by_days r p a b e = e * 86_400 + 32_400 == number r.start
     || (nat_lt (number r.start) (e * 86_400 + 32_400) && (is_period r p && (is_instance r p (e * 86_400 + 32_400)
     && (is_absent r BySetPos || nth_day (is_instance r p) a b 32_400 r.parts.positions (e - a)))))
 

@@ -1,6 +1,5 @@
 -- What the parts of an effective rule let in, by those of the rule and by what DTSTART gives.
-use Rattle.std.proofs.Common.{◌≡◌, ℕ, suc, ◌+◌, ◌*◌, ◌/◌, ◌%◌, Bool, true, false, ◌&&◌, ◌||◌, ◌==◌, if◌then◌else◌, refl, sym}
-use Rattle.std.proofs.Common.{ap, ◌∙◌, arith}
+use Rattle.std.proofs.Common.{◌≡◌, ℕ, suc, ◌+◌, ◌*◌, ◌/◌, ◌%◌, Bool, true, false, ◌&&◌, ◌||◌, ◌==◌, if◌then◌else◌, refl, sym, ap, ◌∙◌, arith}
 use Rattle.std.proofs.lemmas.Bool.{and_right}
 use Rattle.std.proofs.lemmas.Bool.Decides.{nat_tests}
 use Rattle.std.proofs.lemmas.Nat.{pow_pos}
@@ -33,8 +32,7 @@ none_only s = grind (arith, nat_tests, pow_pos)
 only_number : (t : Bool) (s own n : ℕ) → lets (if t then only own else s) n ≡ (if t then (n == own) else lets s n)
 only_number t s own n = grind (arith, contains-only, none_only)
 
-only_day : (t : Bool) (p : Ordinals) (own n size : ℕ) →
-    lets_place (if t then only_place own else p) n size ≡ (if t then (n == own) else lets_place p n size)
+only_day : (t : Bool) (p : Ordinals) (own n size : ℕ) → lets_place (if t then only_place own else p) n size ≡ (if t then (n == own) else lets_place p n size)
 only_day t p own n size = grind (arith, contains-only, has_none, none_only)
 
 no_number : (n : ℕ) → numbers_of no_weekdays n ≡ no_ordinals

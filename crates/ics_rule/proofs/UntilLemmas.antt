@@ -41,8 +41,7 @@ same_counted r o n = grind (arith, count-same, same_members)
 
 pub kept_by_until : (r : Recurrence) (n : ℕ) → is_kept r n ≡ (n == number r.start || (is_kept (without_until r) n && is_bounded r n))
 unfolding is_kept
-kept_by_until r n =
-    rw (same_members r n, same_counted r r.parts.count n, until_bounds r n)
+kept_by_until r n = rw (same_members r n, same_counted r r.parts.count n, until_bounds r n)
     (in_order (n == number r.start) (nat_lt n rules_end) (is_in_rule r n) (is_bounded r n) (is_counted r r.parts.count n))
   where
     in_order : (s e m u c : Bool) → (s || (e && m && u && c)) ≡ (s || ((s || (e && m && true && c)) && u))

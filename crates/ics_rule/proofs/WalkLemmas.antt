@@ -1,6 +1,5 @@
 -- How far a walk over the periods has come.
-use Rattle.std.proofs.Common.{◌≡◌, ℕ, ◌+◌, ◌-◌, ◌*◌, ◌%◌, ◌<◌, ◌≤◌, inl, inr, Bool, true, false, Option, Some, None, MatchOption, ◌⊎◌}
-use Rattle.std.proofs.Common.{min, sym, ap, ◌∙◌, arith}
+use Rattle.std.proofs.Common.{◌≡◌, ℕ, ◌+◌, ◌-◌, ◌*◌, ◌%◌, ◌<◌, ◌≤◌, inl, inr, Bool, true, false, Option, Some, None, MatchOption, ◌⊎◌, min, sym, ap, ◌∙◌, arith}
 use Rattle.std.proofs.lemmas.Bool.{cases_lt}
 use Rattle.std.proofs.lemmas.Nat.{mod-mul-add}
 use Rattle.jiff_core.specs.Weekday.{monday_zero}
@@ -67,8 +66,7 @@ walk_counts {q = q} {start = start} {before = before} {cursor = cursor} {number 
 
 -- nothing is chosen between a step and the next that may be open
 module _ {q : EffectiveRule} (start : ℕ) (some : 1 ≤ q.interval) where
-  passed_over : {number next : ℕ} → is_stepped (period_in q start) q.interval number ≡ true →
-      IsNextOpen q (period_in q start) (number + q.interval) next
+  passed_over : {number next : ℕ} → is_stepped (period_in q start) q.interval number ≡ true → IsNextOpen q (period_in q start) (number + q.interval) next
       → (n : ℕ) → number < period_in q n → period_in q n < next → is_chosen q start n ≡ false
   passed_over {number = number} step is_next n later u = elim (cases_lt (period_in q n) (number + q.interval)) [
     | inl between ↦ no_step q start n (none_between q.interval some (period_in q start) number (period_in q n) step later between)

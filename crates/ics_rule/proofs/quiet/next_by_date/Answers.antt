@@ -11,8 +11,7 @@ opened c = joined c.args.search.now.parts.now c.args.search.now.start c.loop-ste
     (closed c.args.search.now.parts.now c.args.search.now.start c.next_allowed-open.ensures.none)
 
 pub returns-then-begin-open-clause-none : goal.returns-then-begin-open-clause-none
-returns-then-begin-open-clause-none c =
-    joined c.args.search.now.parts.now c.args.search.now.start c.next_allowed-open.result
+returns-then-begin-open-clause-none c = joined c.args.search.now.parts.now c.args.search.now.start c.next_allowed-open.result
     (opened (goal.at.returns-then-begin-open-clause-none c).After-next_allowed-open)
     (closed c.args.search.now.parts.now c.args.search.now.start c.time_from.ensures.none)
 

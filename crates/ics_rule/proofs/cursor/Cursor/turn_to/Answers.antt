@@ -15,8 +15,7 @@ pub look_at-requires-2-clause-low : goal.look_at-requires-2-clause-low
 look_at-requires-2-clause-low c = step_low c.args.search.now.parts.now c.args.search.now.start c.args.number c.requires.step
 
 pub returns-in_default-count-clause-looks : goal.returns-in_default-count-clause-looks
-returns-in_default-count-clause-looks c =
-    looks_once 0 c.args.self.now c.look_at.ensures.0 (grind arith) c.look_at.ensures.1.0 c.look_at.ensures.1.1.1
+returns-in_default-count-clause-looks c = looks_once 0 c.args.self.now c.look_at.ensures.0 (grind arith) c.look_at.ensures.1.0 c.look_at.ensures.1.1.1
 
 pub returns-in_default-clause-looks : goal.returns-in_default-clause-looks
 returns-in_default-clause-looks c =

@@ -14,8 +14,7 @@ module _ (r : Recurrence) (n : ℕ) where
   by_parts eq es ea eb ek = let whole : n / 86_400 * 86_400 + n % 86_400 ≡ n = omega arith in rw (ea, eb, ek, whole, eq, es)
 
 pub returns : goal.returns
-returns c =
-    by_parts c.args.self.now c.number-n.result (c.self.invariant.0 ∙ ap effective c.self.view_is) (c.number.ensures.value
+returns c = by_parts c.args.self.now c.number-n.result (c.self.invariant.0 ∙ ap effective c.self.view_is) (c.number.ensures.value
     ∙ ap (λ (r : Recurrence). number r.start) c.self.view_is)
     c.in_step-in_step.ensures c.lets_date-date.ensures (c.lets_clock-clock.ensures (c.number-n.result / 86_400))
     ∙ ap (is_candidate c.args.self.now) c.number-n.ensures.value
