@@ -215,20 +215,33 @@ fn common_divisor(a: u64, b: u64) -> u64 {
 /// A look at a period costs about as much as so many at single steps.
 const LOOK: u64 = 16;
 
-/// Whether steps of an interval from a period on reach one whose second, minute or hour is allowed, whichever a period is. No contract says that they do:
-/// it tells a cost.
-fn reaches(clock: &StepClock, number: u64, interval: u32) -> bool {
-    let (set, size) = match clock.per_day {
-        86_400 => (clock.seconds, 60),
-        1_440 => (clock.minutes, 60),
-        24 => (clock.hours, 24),
-        _ => return true,
-    };
-    let divisor = common_divisor(size, u64::from(interval)).max(1);
-    for own in 0..size {
-        if own % divisor == number % divisor && set.contains(own as u8) {
+/// Whether a set has the least number that is given, or one that is some divisors greater, below sixty.
+fn has_rest(set: BitSet, least: u64, divisor: u64) -> bool
+    requires some { 0 < divisor }
+    requires most { divisor ≤ 86400 }
+{
+    let mut own = least;
+    while own < 60 {
+        if set.contains(own as u8) {
             return true;
         }
+        own += divisor;
+    }
+    false
+}
+
+/// Whether steps of an interval from a period on reach one whose time of day is allowed, on whichever days. No contract says that they do: it tells
+/// a cost.
+fn reaches(clock: &StepClock, number: u64, interval: u32) -> bool {
+    let divisor = common_divisor(u64::from(clock.per_day), u64::from(interval)).clamp(1, 86_400);
+    let rest = number % divisor;
+    let mut at = 0;
+    while let Some(minute) = next_minute(clock.hours, clock.minutes, at) {
+        let begin = u64::from(minute) * 60 % divisor;
+        if has_rest(clock.seconds, (rest + (divisor - begin)) % divisor, divisor) {
+            return true;
+        }
+        at = minute + 1;
     }
     false
 }
