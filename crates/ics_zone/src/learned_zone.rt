@@ -271,7 +271,7 @@ fn stretches_between(
     let mut next = from.max(FIRST_HELD);
     let mut steps = 0;
     for _ in 0..most {
-        if next > to || steps > STEPS || !is_moment(next) {
+        if next > to || steps >= STEPS || !is_moment(next) {
             return known;
         }
         let stretch = zone.stretch(next);
