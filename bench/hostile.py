@@ -496,6 +496,14 @@ ROWS = [
      lambda: rules(7, 'FREQ=SECONDLY;INTERVAL=7025;BYMONTH=8,9;BYMINUTE=26;COUNT=4294967295'), ['9700-07-01', '1d'], 4, 32),
     ('7 rules of even seconds that name an odd one and all weekdays, each day of a thousand years',
      lambda: rules(7, 'FREQ=SECONDLY;INTERVAL=298;BYDAY=%s;BYSECOND=1' % WEEK), ['0001-01-05', '366000d', '--every-day'], 1, 32),
+    ('7 rules of seconds at odd hours whose steps are at even ones, each day of ages',
+     lambda: rules(7, 'FREQ=SECONDLY;INTERVAL=7200;BYDAY=%s;BYHOUR=1,3,5,7,9' % WEEK), AGES[:3], 1, 32),
+    ('43 rules of one in all days of a year since 0001, under COUNT, a day of 9700',
+     lambda: rules(43, 'FREQ=YEARLY;BYMONTHDAY=%s;BYDAY=%s;BYSETPOS=10;COUNT=4294967295' % (listed(range(1, 32)), WEEK)), ['9700-07-01', '1d'], 8, 32),
+    ('73 rules of each 65,015th second in seven months, under COUNT, a day of 9700',
+     lambda: rules(73, 'FREQ=SECONDLY;INTERVAL=65015;BYMONTH=1,3,5,7,8,10,12;COUNT=4294967295'), ['9700-07-01', '1d'], 20, 32),
+    ('89 rules of each 25th hour in February, under COUNT, each day of a month of 9700',
+     lambda: rules(89, 'FREQ=HOURLY;INTERVAL=25;BYMONTH=2;COUNT=4294967295'), ['9700-01-01', '30d', '--every-day', '--notstarted'], 20, 32),
     ('400,000 faulty events, --keep-going', lambda: faulty(400_000), [*DAY, '--keep-going'], 12, 256),
 ]
 
