@@ -76,8 +76,7 @@ module _ (q : EffectiveRule) (start n : ℕ) (step i : Bool) (set : ℕ → Bool
   pub chosen_by : is_candidate_in q start n ≡ (step && i) → set n ≡ i
       → (step ≡ true → (m : ℕ) → m < max (suc n) calendar_end → is_beside q start n m ≡ set m)
       → is_chosen q start n ≡ (step && (i && (lists_none_wide q.positions || is_nth q.positions set n)))
-  chosen_by candidate here beside =
-      by_parts step i candidate (λ s e. nth_placed q start n set (beside s) (here ∙ e) (lists_none_wide q.positions))
+  chosen_by candidate here beside = by_parts step i candidate (λ s e. nth_placed q start n set (beside s) (here ∙ e) (lists_none_wide q.positions))
 
 -- what a product of a step takes is what is chosen within its period
 module _ {q : EffectiveRule} (start : ℕ) {p : RecurrencePeriod} {number : ℕ} (own : IsPeriodOf q p) (same : p.number ≡ number)

@@ -45,8 +45,7 @@ looks_once counted before p h e same = grind (arith, nat_tests, begun, count_one
 
 -- a cursor before its looks
 pub moved_none : {q : EffectiveRule} {start : ℕ} {o : Option ℕ} {c : Cursor} (stop : ℕ) → IsCursorIn q start o c → HasMoved q start o stop c c
-moved_none stop own =
-    record { place = refl; looks = inl (refl, refl); begun = own.begun; steps = own.steps; looked = λ a b s few. few.few }
+moved_none stop own = record { place = refl; looks = inl (refl, refl); begun = own.begun; steps = own.steps; looked = λ a b s few. few.few }
 
 -- and one look further, at a step that is met
 pub moved_on : {q : EffectiveRule} {start : ℕ} {o : Option ℕ} {stop number : ℕ} {before now after : Cursor} → HasMoved q start o stop before now →

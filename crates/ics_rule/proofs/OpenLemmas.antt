@@ -102,8 +102,7 @@ module _ (i : ℕ) (some : 1 ≤ i) (from j : ℕ) (less : j < i) where
 
 -- the periods let in on the days, from one on, with places before another
 abbrev pub placed : EffectiveRule → ℕ → ℕ → ℕ → ℕ → Bool
-placed q first from j p =
-    (nat_le from (p / per_day q.frequency) && nat_lt ((p / per_day q.frequency - from) % q.interval) j) && is_open_period q first p
+placed q first from j p = (nat_le from (p / per_day q.frequency) && nat_lt ((p / per_day q.frequency - from) % q.interval) j) && is_open_period q first p
 
 -- whole days, from one on and before another, of a rule that begins earlier
 pub record IsDayRun (q : EffectiveRule) (first from before : ℕ) : Type 0 where

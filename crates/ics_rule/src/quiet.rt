@@ -34,32 +34,37 @@ fn step_from(search: &Search<'_>, own: u64, looks: u32) -> u64
     }
 }
 
-/// The first local of the first step, from the period of a local on. After each so many looks, that of the first whose time and weekday are allowed,
-/// as far as that is known. The end of the rules if that is later.
+/// A local, if its period is a step, else the first local of the next step. After each so many looks, that of the first whose time and weekday are
+/// allowed, as far as that is known. The end of the rules if that is later.
+#[inline]
 fn begin_of_step(search: &Search<'_>, n: u64, looks: u32) -> u64
-    requires { n < calendar_end }
+    requires { n < rules_end }
     ensures none { NoneChosen search.now.parts.now search.now.start n result }
     ensures inside { result ≤ rules_end }
 {
     let parts = search.parts;
-    let step = step_from(search, period_of(parts, n), looks);
+    // Each period from that of the start on is a step then.
+    if parts.interval == 1 {
+        return n;
+    }
+    let own = period_of(parts, n);
+    let step = step_from(search, own, looks);
+    if step == own {
+        return n;
+    }
     if step > period_of(parts, RULES_END) {
         return RULES_END;
     }
     first_local(parts.frequency, parts.week_start, step)
 }
 
-/// The first local from one on whose time of day a rule allows, or the end of its day. From the end of the rules on it is that one.
+/// The first local from one on whose time of day a rule allows, or the end of its day.
 fn time_from(parts: &EffectiveRule, n: u64) -> u64
-    requires { n < calendar_end }
+    requires { n < rules_end }
     ensures none { NoneLetIn parts.now n result }
     ensures inside { result < calendar_end }
 {
-    if n < RULES_END {
-        next_open_second(parts, n)
-    } else {
-        n
-    }
+    next_open_second(parts, n)
 }
 
 /// A local before which a rule chooses none from another on, by the parts of the date and the time alone: the first that they allow in a step,
@@ -69,14 +74,17 @@ fn next_by_date(search: &Search<'_>, from: u64) -> u64
     ensures none { NoneChosen search.now.parts.now search.now.start from result }
     ensures inside { result < calendar_end }
 {
-    let mut at = from;
+    let mut at = begin_of_step(search, from, 1);
     for steps in 0..MANY_STEPS {
         if at >= RULES_END {
             return at;
         }
         let open = next_allowed(search.parts, at, RULES_END);
+        if open >= RULES_END {
+            return open;
+        }
         let begin = begin_of_step(search, open, steps + 1);
-        if begin <= open {
+        if begin == open {
             return time_from(search.parts, open);
         }
         at = begin;
@@ -137,24 +145,19 @@ impl Cursor {
         ensures counted { CountedBy search.now.parts.now search.now.start search.now.count self.new }
     {
         let parts = search.parts;
-        let own = period_of(parts, self.place);
-        match &self.held {
-            Some(period) if period.number() == own => {
-                match period.next_taken(&parts.positions, self.place) {
+        if let Some(period) = &self.held {
+            let end = first_local(parts.frequency, parts.week_start, period.number() + 1);
+            if self.place < end {
+                return match period.next_taken(&parts.positions, self.place) {
                     Some(n) => n,
-                    None => {
-                        let end = first_local(parts.frequency, parts.week_start, own + 1);
-                        self.quiet_from(search, end)
-                    }
-                }
+                    None => self.quiet_from(search, end),
+                };
             }
-            _ => {
-                if self.is_ahead(search, own) {
-                    self.quiet_from(search, self.quiet_to)
-                } else {
-                    next_by_parts(search, self.place)
-                }
-            }
+        }
+        if self.is_ahead(search, period_of(parts, self.place)) {
+            self.quiet_from(search, self.quiet_to)
+        } else {
+            next_by_parts(search, self.place)
         }
     }
 }

@@ -4,7 +4,7 @@ ghost use Rattle.ics_fields.specs.Days.{IsDayNumber};
 
 use crate::given::Given;
 use ics_fields::{Local, Moment, Parts, Until};
-use ics_period::{EffectiveRule, Kind, fill, in_step, lets_clock, lets_date};
+use ics_period::{EffectiveRule, Kind, fill, in_step, lets_clock, lets_date, period_of};
 use std::marker::Model;
 
 /// A recurrence rule, with the start and the kind of its event (RFC 5545, 3.3.10). What the rule leaves out is taken from the start.
@@ -14,6 +14,8 @@ pub struct Rule {
     pub(crate) given: Given,
     pub(crate) start: Local,
     pub(crate) kind: Kind,
+    /// The number of the period of the start.
+    pub(crate) first: u64,
 }
 
 impl Model for Rule {
@@ -21,10 +23,12 @@ impl Model for Rule {
 
     ghost Value = { Recurrence };
 
-    ghost use Rattle.std.specs.Prelude.{◌≡◌, ◌≤◌, MatchOption};
-    ghost use Rattle.std.proofs.Common.{sym};
+    ghost use Rattle.std.specs.Prelude.{◌≡◌, ◌<◌, ◌≤◌, ◌^◌, MatchOption};
+    ghost use Rattle.std.proofs.Common.{◌∙◌, ap, sym};
     ghost use Rattle.ics_fields.specs.Days.{IsDayNumber};
+    ghost use Rattle.ics_fields.specs.Locals.{number};
     ghost use Rattle.ics_fields.specs.RuleParts.{IsUntil};
+    ghost use Rattle.ics_period.specs.Candidates.{period_in};
     ghost use Rattle.ics_period.specs.EffectiveRules.{effective};
     ghost use Rattle.ics_rule.specs.Inner.Given.{given_of, parts_of};
 
@@ -32,11 +36,24 @@ impl Model for Rule {
 
     ghost invariant = { λ r. (r.whole ≡ effective (record { parts = parts_of r.whole r.given; start = r.start; kind = r.kind }))
         × (IsDayNumber r.start.day × (1 ≤ r.whole.interval) × MatchOption r.given.count (Unit {0}) (λ n. 1 ≤ n)
-        × MatchOption r.given.until (Unit {0}) IsUntil × (r.given ≡ given_of (parts_of r.whole r.given))) };
+        × MatchOption r.given.until (Unit {0}) IsUntil × (r.given ≡ given_of (parts_of r.whole r.given))
+        × (r.first ≡ period_in r.whole (number r.start)) × (r.first < 2 ^ 40)) };
 
-    ghost inverse = { λ v. record { whole = effective v; given = given_of v.parts; start = v.start; kind = v.kind } };
+    ghost inverse = { λ v. record {
+      whole = effective v;
+      given = given_of v.parts;
+      start = v.start;
+      kind = v.kind;
+      first = period_in (effective v) (number v.start);
+    } };
 
-    ghost inverse_ok = { λ r h i. record { whole = sym h.0 i; given = sym h.1.4 i; start = r.start; kind = r.kind } };
+    ghost inverse_ok = { λ r h i. record {
+      whole = sym h.0 i;
+      given = sym h.1.4 i;
+      start = r.start;
+      kind = r.kind;
+      first = sym (h.1.5 ∙ ap (λ q. period_in q (number r.start)) h.0) i;
+    } };
 }
 
 impl Rule {
@@ -50,13 +67,16 @@ impl Rule {
         requires { IsDayNumber start.day }
         ensures { result ≡ record { parts = parts; start = start; kind = kind } }
     {
-        let whole = fill(&parts, kind, start.number());
+        let number = start.number();
+        let whole = fill(&parts, kind, number);
         let given = Given::of(&parts);
+        let first = period_of(&whole, number);
         Rule {
             whole,
             given,
             start,
             kind,
+            first,
         }
     }
 

@@ -1,12 +1,12 @@
 //! A search of a rule.
 ghost use Rattle.std.specs.Prelude.{◌≡◌, ◌<◌, ◌≤◌, ◌^◌};
 ghost use Rattle.std.specs.Option.{ForSome};
-ghost use Rattle.ics_fields.specs.Locals.{calendar_end};
+ghost use Rattle.ics_fields.specs.Locals.{calendar_end, number};
 ghost use Rattle.ics_period.specs.Candidates.{period_in};
 ghost use Rattle.ics_period.specs.EffectiveRules.{effective};
 
 use crate::rule::Rule;
-use ics_period::{EffectiveRule, period_of};
+use ics_period::EffectiveRule;
 
 /// What a search goes by: the parts of a rule, COUNT, the start, and the period of the start, from which INTERVAL counts.
 #[derive(Clone, Copy)]
@@ -25,7 +25,8 @@ pub(crate) struct Search<'a> {
 impl Search<'_> {
     /// What a search of a rule goes by, whose start has a number.
     pub(crate) fn of(rule: &Rule, start: u64) -> Search<'_>
-        requires { start < calendar_end }
+        requires start { start ≡ number rule.now.start }
+        requires inside { start < calendar_end }
         ensures parts { result.parts.now ≡ effective rule.now }
         ensures count { result.count ≡ rule.now.parts.count }
         ensures start { result.start ≡ start }
@@ -34,7 +35,7 @@ impl Search<'_> {
             parts: &rule.whole,
             count: rule.given.count,
             start,
-            first: period_of(&rule.whole, start),
+            first: rule.first,
         }
     }
 }

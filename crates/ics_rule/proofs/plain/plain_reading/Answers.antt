@@ -104,8 +104,7 @@ module _ (r : Recurrence) (plain : HasPlainReading r) where
       (le-leb (period_at r start) (period_at r n) (period_mono r.parts.frequency (monday_zero r.parts.week_start) start n low))
 
   candidate : (n : ℕ) → n < calendar_end → is_candidate_in (effective r) start n ≡ (in_turn n && all_apply r n)
-  candidate n small =
-      and_assoc (in_turn n) (lets_date (effective r) (day_of n)) (lets_clock (effective r) n) ∙ ap (λ x. in_turn n && x) (parts_apply n small)
+  candidate n small = and_assoc (in_turn n) (lets_date (effective r) (day_of n)) (lets_clock (effective r) n) ∙ ap (λ x. in_turn n && x) (parts_apply n small)
 
   -- BYSETPOS
   chosen : (n : ℕ) → start ≤ n → n < calendar_end → is_chosen (effective r) start n ≡ (frequency_applies r n && (all_apply r n && position_applies r n))

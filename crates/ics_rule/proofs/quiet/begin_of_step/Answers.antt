@@ -12,20 +12,20 @@ use Rattle.ics_rule.proofs.quiet.begin_of_step.Goals.{After-step_from-step}
 stepped : (c : After-step_from-step)
     → IsNextOpen c.args.search.now.parts.now (period_in c.args.search.now.parts.now c.args.search.now.start)
     (period_in c.args.search.now.parts.now c.args.n) c.step_from-step.result
-stepped c = rw (c.args.search.now.of_start, c.period_of.ensures.value) at c.step_from-step.ensures
+stepped c = rw (c.args.search.now.of_start, c.period_of-own.ensures.value) at c.step_from-step.ensures
 
 pub returns-then-step-period_of-clause-none : goal.returns-then-step-period_of-clause-none
 returns-then-step-period_of-clause-none c =
     let q = c.args.search.now.parts.now in
     off_step q c.args.search.now.start c.args.n rules_end (stepped (goal.at.returns-then-step-period_of-clause-none c).After-step_from-step)
     (λ n l u. let up = period_mono q.frequency (monday_zero q.week_start) n rules_end (omega (arith, u)) in
-    omega (arith, up, c.period_of-2.ensures.value, c.if-step-period_of.true))
+    omega (arith, up, c.period_of.ensures.value, c.if-step-period_of.true))
 
 pub first_local-requires : goal.first_local-requires
 first_local-requires c =
     let q = c.args.search.now.parts.now in
     let low = begun q.frequency (monday_zero q.week_start) c.step_from-step.result rules_end
-    (omega (arith, c.period_of-2.ensures.value, c.if-step-period_of.false)) in
+    (omega (arith, c.period_of.ensures.value, c.if-step-period_of.false)) in
     omega (arith, low)
 
 pub returns-clause-none : goal.returns-clause-none
@@ -38,5 +38,5 @@ pub returns-clause-inside : goal.returns-clause-inside
 returns-clause-inside c =
     let q = c.args.search.now.parts.now in
     let low = begun q.frequency (monday_zero q.week_start) c.step_from-step.result rules_end
-    (omega (arith, c.period_of-2.ensures.value, c.if-step-period_of.false)) in
+    (omega (arith, c.period_of.ensures.value, c.if-step-period_of.false)) in
     omega (arith, low, c.first_local.ensures)

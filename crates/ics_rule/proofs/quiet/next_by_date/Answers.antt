@@ -10,6 +10,9 @@ opened : (c : After-next_allowed-open)
 opened c = joined c.args.search.now.parts.now c.args.search.now.start c.loop-steps.at c.loop-steps.invariant.none
     (closed c.args.search.now.parts.now c.args.search.now.start c.next_allowed-open.ensures.none)
 
+pub returns-then-open-ge-RULES_END-clause-none : goal.returns-then-open-ge-RULES_END-clause-none
+returns-then-open-ge-RULES_END-clause-none c = opened (goal.at.returns-then-open-ge-RULES_END-clause-none c).After-next_allowed-open
+
 pub returns-then-begin-open-clause-none : goal.returns-then-begin-open-clause-none
 returns-then-begin-open-clause-none c = joined c.args.search.now.parts.now c.args.search.now.start c.next_allowed-open.result
     (opened (goal.at.returns-then-begin-open-clause-none c).After-next_allowed-open)

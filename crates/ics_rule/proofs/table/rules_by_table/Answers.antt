@@ -157,8 +157,7 @@ module _ (r : Recurrence) (allowed : IsAllowed r) where
   week_out h some = grind (arith, allowed.parts ByWeekNo)
 
   step : (part : Part) (set : Instances) (i : Instance) → apply r set part i ≡ (lets_part part i && set (left part i))
-  step ByWeekNo set i =
-      by_cell ByWeekNo set (λ kept. from ByWeekNo kept i) refl (allowed.parts ByWeekNo) (λ h some. absurd (week_out h some))
+  step ByWeekNo set i = by_cell ByWeekNo set (λ kept. from ByWeekNo kept i) refl (allowed.parts ByWeekNo) (λ h some. absurd (week_out h some))
   step part set i = by_cell part set (λ kept. from part kept i) refl (allowed.parts part) (λ h some. refl)
 
   -- the parts applied, the last of them first, and their tests

@@ -27,9 +27,8 @@ returns-then-stop-self-clause-none c =
 pub returns-then-is_counted_out-clause-none : goal.returns-then-is_counted_out-clause-none
 returns-then-is_counted_out-clause-none c =
     let at = (goal.at.returns-then-is_counted_out-clause-none c).After-min-stop in
-    let none = c.is_counted_out.ensures.out c.if-is_counted_out.true in
     none_kept c.args.rule.now c.args.self.now.place rules_end c.until_end.result (after at) (omega arith) (ends at)
-    (λ n l u. let is = none n l in grind arith)
+    (λ n l u. let is = c.is_counted_out.ensures.out c.if-is_counted_out.true n l in grind arith)
 
 pub returns-then-chooses_none-clause-none : goal.returns-then-chooses_none-clause-none
 returns-then-chooses_none-clause-none c =
