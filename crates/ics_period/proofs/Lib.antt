@@ -17,3 +17,7 @@ mod PlaceLemmas
 pub mod ClockLemmas
 pub mod StepsLemmas
 pub mod IntervalLemmas
+pub mod CycleLemmas
+pub mod StepWalks
+pub mod CountBounds
+pub mod Samples

@@ -12,7 +12,7 @@ use Rattle.ics_period.specs.RecurrencePeriods.{first_local}
 use Rattle.ics_rule.specs.Inner.Rounds.{calendar_periods, IsCalendarRound, IsRound}
 use Rattle.ics_rule.proofs.RoundLemmas.{clock_same, let_in_alike, step_repeats}
 use Rattle.ics_period.proofs.Tests.{positive}
-use Rattle.ics_rule.proofs.CycleLemmas.{years_again, months_again, year_again, month_again, date_again}
+use Rattle.ics_period.proofs.CycleLemmas.{years_again, months_again, year_again, month_again, date_again}
 
 period_again : (f : Frequency) (w n k : ℕ) → period f w (n + k * 12_622_780_800) ≡ period f w n + k * calendar_periods f
 period_again Monthly w n k = grind (arith, year_again k (n / 86_400), month_again k (n / 86_400))

@@ -17,7 +17,7 @@ use Rattle.ics_period.proofs.Counts.{count-none, count-same, count-suc, count_no
 use Rattle.ics_period.proofs.PeriodLemmas.{begun, begins, before_first, period_mono}
 use Rattle.ics_rule.specs.Inner.Filled.{first_day, is_open_from, locals_between, IsPoor}
 use Rattle.ics_rule.specs.Inner.Rounds.{seconds_of, calendar_periods}
-use Rattle.ics_rule.proofs.CycleLemmas.{date_again}
+use Rattle.ics_period.proofs.CycleLemmas.{date_again}
 use Rattle.ics_rule.proofs.CalendarRounds.{first_again, some_periods}
 use Rattle.ics_rule.proofs.MostLemmas.{days_size, from_first, is_day, none_placed}
 

@@ -6,7 +6,6 @@ pub mod NextLemmas
 pub mod CountLemmas
 pub mod WalkLemmas
 pub mod QuietLemmas
-pub mod Samples
 pub mod UntilLemmas
 pub mod EndLemmas
 pub mod LawLemmas
@@ -27,6 +26,5 @@ mod TableCounts
 mod FirstLemmas
 mod FlatLemmas
 mod EvenLemmas
-mod CycleLemmas
 pub mod CalendarRounds
 mod GivenLemmas

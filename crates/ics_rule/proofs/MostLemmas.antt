@@ -1,7 +1,7 @@
 -- How many locals a rule allows in one period at most.
-use Rattle.std.proofs.Common.{◌≡◌, ℕ, zero, suc, ◌+◌, ◌*◌, ◌/◌, ◌%◌, ◌<◌, ◌≤◌, Bool, true, false, ◌&&◌, ◌||◌, ◌==◌, ◌-◌, ◌⊎◌, not, pos, nat_le, min, max}
+use Rattle.std.proofs.Common.{◌≡◌, ℕ, zero, suc, ◌+◌, ◌*◌, ◌/◌, ◌%◌, ◌<◌, ◌≤◌, Bool, true, false, ◌&&◌, ◌||◌, ◌-◌, ◌⊎◌, not, pos, nat_le, min}
 use Rattle.std.proofs.Common.{inr, refl, sym, ap, ◌∙◌, cond, arith}
-use Rattle.std.proofs.lemmas.Bool.{and_parts, eq-eqb, eqb-true, false_from_ne_true}
+use Rattle.std.proofs.lemmas.Bool.{and_parts, eq-eqb, false_from_ne_true}
 use Rattle.std.proofs.lemmas.Bool.Decides.{nat_tests}
 use Rattle.std.proofs.lemmas.Nat.{le-div, div-add-mod'}
 use Rattle.std.proofs.Math.Nat.{mod-lt, mul-le-mul_right}
@@ -17,85 +17,22 @@ use Rattle.ics_fields.specs.declared.frequency.Frequency.{Frequency}
 use Rattle.ics_fields.specs.declared.frequency.Frequency.TheVariants.{Secondly, Minutely, Hourly, Daily, Weekly, Monthly, Yearly}
 use Rattle.ics_period.specs.declared.effective_rule.EffectiveRule.{EffectiveRule}
 use Rattle.ics_period.specs.PeriodNumbers.{day_of, month_number, period}
-use Rattle.ics_period.specs.Candidates.{lets, lets_place, lets_date, lets_clock, is_candidate_in, in_step, period_in}
+use Rattle.ics_period.specs.Candidates.{lets, lets_place, lets_date, lets_clock, is_candidate_in, period_in}
 use Rattle.ics_period.specs.Ranks.{count, is_beside, is_placed, is_chosen, rank, size}
 use Rattle.ics_period.specs.RecurrencePeriods.{month_start, first_local}
 use Rattle.ics_period.proofs.ClockLemmas.{same_time}
-use Rattle.ics_period.proofs.Counts.{count-same, count-suc, count-add, count-none, count-from, count-product, count_every, count_mono, count_most, count_some}
+use Rattle.ics_period.proofs.Counts.{count-same, count-add, count-none, count-from, count_mono, count_most, count_some}
+use Rattle.ics_period.proofs.CountBounds.{count_fewer, count_later, both_true, not_earlier, count_cycle, listed_most, in_blocks}
 use Rattle.ics_period.proofs.DateLemmas.{weekday_in, weekday_out, weekdays_alone}
 use Rattle.ics_period.proofs.MonthDays.{number_let_in}
 use Rattle.ics_period.proofs.Months.{month_high, month_positive}
 use Rattle.ics_period.proofs.PeriodLemmas.{begun, begins, before_first, before_next, is_short, month_size}
 use Rattle.ics_period.proofs.WeekLemmas.{year_day_is}
-use Rattle.ics_period.proofs.RankLemmas.{count_flat}
 use Rattle.ics_rule.specs.Inner.Rounds.{seconds_of}
 use Rattle.ics_rule.specs.Inner.Filled.{first_day, locals_between}
 use Rattle.ics_rule.specs.Inner.OpenPeriods.{lets_own, lets_within, size_of_open, listed_in_month, listed_in_year, of_weekdays, most_days}
 use Rattle.ics_rule.proofs.RoundLemmas.{date_alike}
 use Rattle.ics_rule.proofs.EachLemmas.{clock_split, within_at, in_period, size_daily}
-
--- what passes one test passes another, so that no more pass it
-count_fewer : (n : ℕ) (f g : ℕ → Bool) → ((m : ℕ) → m < n → f m ≡ true → g m ≡ true) → count n f ≤ count n g
-unfolding count
-count_fewer zero f g h = omega arith
-count_fewer (suc n) f g h = let less = count_fewer n f g (λ m l. h m (omega (arith, l))) in more (f n) (g n) (h n (omega arith)) less
-  where
-    more : {x y : ℕ} (a b : Bool) → (a ≡ true → b ≡ true) → x ≤ y → x + cond a 1 0 ≤ y + cond b 1 0
-    more a b h l = grind arith
-
--- the numbers from one on
-count_later : (a d : ℕ) → count (a + d) (nat_le a) ≡ d
-count_later a d =
-    count-from a d (nat_le a) (λ m l. grind (arith, nat_tests))
-    ∙ count-same d (λ k. nat_le a (a + k)) (λ k. true) (λ k l. grind (arith, nat_tests)) ∙ count_every d
-
-both_true : (a b : Bool) → a ≡ true → b ≡ true → (a && b) ≡ true
-both_true a b h e = grind arith
-
-not_earlier : (a x : ℕ) → a ≤ x → nat_le a x ≡ true
-not_earlier a x h = grind (arith, nat_tests)
-
--- tests that repeat after so many numbers count as many of these from any number on
-count_cycle : (len : ℕ) (p : ℕ → Bool) → ((m : ℕ) → p (m + len) ≡ p m) → (s : ℕ) → count len (λ k. p (s + k)) ≡ count len p
-count_cycle len p same zero = count-same len (λ k. p (0 + k)) p (λ k l. ap p (omega arith))
-count_cycle len p same (suc s) =
-    let before = count_cycle len p same s in
-    let one = count-add s len p in
-    let two = count-add (suc s) len p in
-    let end = count-suc (s + len) p in
-    let begin = count-suc s p in
-    let alike : ◌≡◌ {A = ℕ} (cond (p (s + len)) 1 0) (cond (p s) 1 0) = (let f : Bool → ℕ = λ b. cond b 1 0 in ap f (same s)) in
-    let sum = ap (λ x. count x p) (let e : suc s + len ≡ suc (s + len) = omega arith in e) in
-    omega (arith, before, one, two, end, begin, alike, sum)
-
--- Blocks of u locals, of which the last before `top` is the last that the period of n has a local in. A block with a day of it that the rule allows
--- passes a test, and so does the place in its block of each local whose time the rule allows.
-module _ (q : EffectiveRule) (start n top u : ℕ) (t g : ℕ → Bool)
-    (high : (m : ℕ) → period_in q m ≡ period_in q n → m < top * u)
-    (opens : (m : ℕ) → period_in q m ≡ period_in q n → lets_date q (day_of m) ≡ true → t (m / u) ≡ true)
-    (lets_in : (m : ℕ) → lets_clock q m ≡ true → g (m % u) ≡ true) where
-  abbrev beside : ℕ → Bool
-  beside = is_beside q start n
-
-  here : (m : ℕ) → beside m ≡ true → period_in q m ≡ period_in q n
-  here m is = eqb-true (period_in q m) (period_in q n) (and_parts (is_candidate_in q start m) (period_in q m == period_in q n) is).1
-
-  parts : (m : ℕ) → beside m ≡ true → (lets_date q (day_of m) ≡ true) × (lets_clock q m ≡ true)
-  parts m is =
-      let candidate = (and_parts (is_candidate_in q start m) (period_in q m == period_in q n) is).0 in
-      let both = and_parts (in_step q start m && lets_date q (day_of m)) (lets_clock q m) candidate in
-      ((and_parts (in_step q start m) (lets_date q (day_of m)) both.0).1, both.1)
-
-  pub in_blocks : size q start n ≤ count top t * count u g
-  in_blocks =
-      let end = top * u in
-      let block = λ (m : ℕ). t (m / u) && g (m % u) in
-      let up = count_mono calendar_end (max calendar_end end) beside (omega arith) in
-      let flat = count_flat end (max calendar_end end) beside (omega arith)
-      (λ m l h. false_from_ne_true (beside m) (λ is. let early = high m (here m is) in omega (arith, early, l))) in
-      let fewer = count_fewer end beside block (λ m l is.
-      both_true (t (m / u)) (g (m % u)) (opens m (here m is) (parts m is).0) (lets_in m (parts m is).1)) in
-      omega (arith, up, flat, fewer, count-product top u t g)
 
 -- a period of a day or less is one block
 pub short_size : (q : EffectiveRule) (start n : ℕ) → 0 < seconds_of q.frequency → seconds_of q.frequency ≤ 86_400 → size q start n ≤ size_of_open q
@@ -131,32 +68,6 @@ fits Monthly w zero h = let none = days_of_months-zero (pos 0) in omega (arith, 
 fits Monthly w (suc p) h = grind (arith, days_in_month_bounds, month_size)
 fits Yearly w p h = is_short Yearly w p
 fits f w p h = grind arith
-
--- the numbers up to one that are listed, by a list from the start and one from the end
-module _ (f g : ℕ → Bool) (len : ℕ) where
-  abbrev listed : ℕ → Bool
-  listed k = f (k + 1) || g (len - k)
-
-  one : (a b : Bool) → cond (a || b) 1 0 ≤ cond a 1 0 + cond b 1 0
-  one a b = grind arith
-
-  so_far : (n : ℕ) → n ≤ len → count n listed + count (len + 1 - n) g ≤ count (n + 1) f + count (len + 1) g
-  so_far zero l =
-      let none = count-none 0 listed (λ m l. absurd (omega (arith, l))) in
-      let all = ap (λ x. count x g) (let e : len + 1 - 0 ≡ len + 1 = omega arith in e) in
-      omega (arith, none, all)
-  so_far (suc n) l =
-      let before = so_far n (omega (arith, l)) in
-      let more = count-suc n listed in
-      let early = count-suc (n + 1) f in
-      let late = count-suc (len - n) g in
-      let here = ap (λ x. count x g) (let e : len + 1 - n ≡ suc (len - n) = omega (arith, l) in e) in
-      let next = ap (λ x. count x g) (let e : len + 1 - suc n ≡ len - n = omega arith in e) in
-      let up = ap (λ x. count x f) (let e : suc n + 1 ≡ suc (n + 1) = omega arith in e) in
-      omega (arith, before, more, early, late, here, next, up, one (f (n + 1)) (g (len - n)))
-
-  listed_most : count len listed ≤ count (len + 1) f + count (len + 1) g
-  listed_most = let all = so_far len (omega arith) in omega (arith, all)
 
 -- the place of a day in its month, and the size of that
 month_place : (e : ℕ) → (month_day_of e ≡ e + 1 - month_start (month_number e))

@@ -18,7 +18,7 @@ use Rattle.ics_rule.specs.PlainReading.{is_nth, is_place, is_wide_place, in_year
 use Rattle.ics_period.proofs.Counts.{count-same, count-suc, count-none, count-from, count_every}
 use Rattle.ics_period.proofs.Months.{month_high, month_positive}
 use Rattle.ics_period.proofs.PeriodLemmas.{month_begun, month_begins, month_size, fourth_late}
-use Rattle.ics_rule.proofs.CycleLemmas.{year_day_again, year_size_of, fourth_again}
+use Rattle.ics_period.proofs.CycleLemmas.{year_day_again, year_size_of, fourth_again}
 use Rattle.ics_period.proofs.RankLemmas.{count_flat}
 use Rattle.ics_period.proofs.WeekLemmas.{year_day_is}
 use Rattle.ics_fields.specs.Locals.{calendar_end}

@@ -1,75 +1,24 @@
 -- The periods that a rule lets in, counted step by step and by whole days.
-use Rattle.std.proofs.Common.{◌≡◌, ℕ, zero, suc, ◌+◌, ◌-◌, ◌*◌, ◌/◌, ◌%◌, ◌<◌, ◌≤◌, Bool, true, false, cond, ◌&&◌, nat_le, nat_lt, min, refl}
+use Rattle.std.proofs.Common.{◌≡◌, ℕ, ◌+◌, ◌-◌, ◌*◌, ◌/◌, ◌%◌, ◌<◌, ◌≤◌, Bool, true, false, ◌&&◌, nat_le, nat_lt, min, refl}
 use Rattle.std.proofs.Common.{sym, ap, ◌∙◌, arith}
-use Rattle.std.proofs.lemmas.Bool.{and_left, cases_lt}
 use Rattle.std.proofs.lemmas.Bool.Decides.{nat_tests}
-use Rattle.std.proofs.lemmas.Nat.{div-add-mod', mod-mul-add, le-div, div_below}
+use Rattle.std.proofs.lemmas.Nat.{div-add-mod', le-div, div_below}
 use Rattle.std.proofs.Math.Nat.{add-mul, mod-lt, mul_comm, mul_assoc, mul-le-mul_right}
 use Rattle.ics_fields.specs.declared.frequency.Frequency.{Frequency}
-use Rattle.ics_fields.specs.Sets.{IsLeastFrom}
 use Rattle.ics_period.specs.declared.effective_rule.EffectiveRule.{EffectiveRule}
 use Rattle.ics_period.specs.Candidates.{lets_clock, lets_date, is_stepped}
 use Rattle.ics_period.specs.Ranks.{count}
+use Rattle.ics_period.proofs.StepWalks.{count-sum, place_more}
 use Rattle.ics_rule.specs.Inner.Rounds.{seconds_of}
 use Rattle.ics_rule.specs.Inner.OpenPeriods.{per_day, lets_own, is_open_period}
-use Rattle.ics_period.proofs.Counts.{count-same, count-suc, count-add, count-none, count-product, count_between, count_most}
+use Rattle.ics_period.proofs.Counts.{count-same, count-add, count-none, count-product, count_between}
 use Rattle.ics_period.proofs.RankLemmas.{count_flat}
-use Rattle.ics_period.proofs.IntervalLemmas.{stepped_parts, stepped_shown, step_on, none_between}
+use Rattle.ics_period.proofs.IntervalLemmas.{stepped_parts}
 use Rattle.ics_rule.proofs.RoundLemmas.{step_repeats}
-
--- counts of tests of which each number passes as many
-count-sum : (n : ℕ) (f g h : ℕ → Bool) → ((m : ℕ) → cond (h m) 1 0 ≡ cond (f m) 1 0 + cond (g m) 1 0) → count n h ≡ count n f + count n g
-unfolding count
-count-sum zero f g h same = refl
-count-sum (suc n) f g h same = let before = count-sum n f g h same in let one = same n in omega (arith, before, one)
-
--- a walk from step to step that counts those that pass a test
-pub record IsStepWalk (a i : ℕ) (g : ℕ → Bool) (from before number total : ℕ) : Type 0 where
-  pub some : 1 ≤ i
-  pub step : is_stepped a i number ≡ true
-  pub passed : total + count from (λ p. is_stepped a i p && g p) ≡ count (min number before) (λ p. is_stepped a i p && g p)
-
-pub walk_first : {a i from before number : ℕ} {g : ℕ → Bool} → 1 ≤ i → from ≤ before → IsLeastFrom (is_stepped a i) from number →
-    IsStepWalk a i g from before number 0
-walk_first some h least = grind (arith, nat_tests, count_flat)
-
-module _ {a i : ℕ} {g : ℕ → Bool} {from before number total : ℕ} (walk : IsStepWalk a i g from before number total) where
-  abbrev stepped : ℕ → Bool
-  stepped p = is_stepped a i p && g p
-
-  pub walk_small : total ≤ number
-  walk_small = let most = count_most (min number before) stepped in omega (arith, most, walk.passed)
-
-  -- to a later step, where none between passes
-  walk_to : {next new : ℕ} {b : Bool} → g number ≡ b → new ≡ total + cond b 1 0 → number < before → is_stepped a i next ≡ true → number < next
-      → ((m : ℕ) → number < m → m < next → stepped m ≡ false) → IsStepWalk a i g from before next new
-  walk_to {next = next} {b = b} e is h step later none = record {
-    some = walk.some;
-    step = step;
-    passed = grind (arith, nat_tests, count_flat (suc number) (min next before) stepped, count-suc number stepped);
-  }
-
-  pub walk_on : {new : ℕ} (b : Bool) → g number ≡ b → new ≡ total + cond b 1 0 → number < before → IsStepWalk a i g from before (number + i) new
-  walk_on b e is h = walk_to e is h (step_on i walk.some a number walk.step) (omega (arith, walk.some))
-      (λ m l u. and_left (is_stepped a i m) (g m) (none_between i walk.some a number m walk.step l u))
-
-  -- past numbers of which none passes, to the next step
-  pub walk_past : {out next : ℕ} → g number ≡ false → ((j : ℕ) → j < out → g (number + j) ≡ false) → 1 ≤ out
-      → IsLeastFrom (is_stepped a i) (number + out) next → number < before → IsStepWalk a i g from before next total
-  walk_past {out = out} e none some least h = walk_to e (omega arith) h least.passes (omega (arith, least.low, some))
-      (λ m l u. let early = none (m - number) in grind (arith, cases_lt))
-
-  pub walk_done : before ≤ number → total + count from stepped ≡ count before stepped
-  walk_done h = walk.passed ∙ ap (λ x. count x stepped) (let all : min number before ≡ before = omega (arith, h) in all)
 
 -- a second that no part allows
 pub own_second : (f : Frequency) (q : EffectiveRule) (m : ℕ) → seconds_of f ≡ 1 → lets_clock q m ≡ false → lets_own f q (m * seconds_of f) ≡ false
 own_second f q m e h = let one : m * 1 ≡ m = omega arith in grind (arith, one, h)
-
--- before the first nothing is a step
-pub none_stepped : (a i : ℕ) (g : ℕ → Bool) → count a (λ p. is_stepped a i p && g p) ≡ 0
-none_stepped a i g = count-none a (λ p. is_stepped a i p && g p)
-    (λ m l. grind (arith, nat_tests))
 
 -- A period of a day or less, in its day.
 module _ (f : Frequency) (q : EffectiveRule) (fine : 0 < seconds_of f) (unit : seconds_of f ≤ 86_400) where
@@ -86,23 +35,10 @@ day_seconds f h u = grind arith
 pub day_some : (f : Frequency) → (1 ≤ per_day f) × (per_day f ≤ 86_400)
 day_some f = grind arith
 
--- Days counted by their place in a run of as many as the interval has.
-module _ (i : ℕ) (some : 1 ≤ i) (from j : ℕ) (less : j < i) where
-  stepped_place : (e : ℕ) → is_stepped (from + j) i e ≡ true → (from ≤ e) × ((e - from) % i ≡ j)
-  stepped_place e h = grind (arith, nat_tests, div-add-mod', mod-mul-add, stepped_parts)
-
-  place_stepped : (e : ℕ) → from ≤ e → (e - from) % i ≡ j → is_stepped (from + j) i e ≡ true
-  place_stepped e l h =
-      let whole = div-add-mod' (e - from) i in stepped_shown (from + j) i e (omega (arith, whole, l, h)) (grind (arith, div-add-mod', mod-mul-add))
-
-  -- one place more
-  place_more : (e : ℕ) (b : Bool) → cond ((nat_le from e && nat_lt ((e - from) % i) (j + 1)) && b) 1 0
-      ≡ cond ((nat_le from e && nat_lt ((e - from) % i) j) && b) 1 0 + cond (is_stepped (from + j) i e && b) 1 0
-  place_more e b = grind (arith, nat_tests, place_stepped, stepped_place)
-
--- the periods let in on the days, from one on, with places before another
-abbrev pub placed : EffectiveRule → ℕ → ℕ → ℕ → ℕ → Bool
-placed q first from j p = (nat_le from (p / per_day q.frequency) && nat_lt ((p / per_day q.frequency - from) % q.interval) j) && is_open_period q first p
+-- the periods let in on the days, from one on, with places before another, in runs of so many days
+abbrev pub placed : EffectiveRule → ℕ → ℕ → ℕ → ℕ → ℕ → Bool
+placed q first i from j p =
+    (nat_le from (p / per_day q.frequency) && nat_lt ((p / per_day q.frequency - from) % i) j) && is_open_period q first p
 
 -- whole days, from one on and before another, of a rule that begins earlier
 pub record IsDayRun (q : EffectiveRule) (first from before : ℕ) : Type 0 where
@@ -120,8 +56,17 @@ module _ {q : EffectiveRule} {first from before : ℕ} (run : IsDayRun q first f
   abbrev timely : ℕ → Bool
   timely p = is_stepped first q.interval p && lets_own q.frequency q (p * seconds_of q.frequency)
 
-  pub placed_none : 0 ≡ count (before * d) (placed q first from 0)
-  placed_none = sym (count-none (before * d) (placed q first from 0) (λ p l. grind (arith, nat_tests)))
+  pub placed_none : (i : ℕ) → 0 ≡ count (before * d) (placed q first i from 0)
+  placed_none i = sym (count-none (before * d) (placed q first i from 0) (λ p l. grind (arith, nat_tests)))
+
+  -- those with one place more
+  pub placed_next : {i j total more : ℕ} → j < i → total ≡ count (before * d) (placed q first i from j)
+      → more ≡ count (before * d) (λ p. is_stepped (from + j) i (p / d) && is_open_period q first p)
+      → total + more ≡ count (before * d) (placed q first i from (j + 1))
+  placed_next {i = i} {j = j} less et em =
+      let sum = count-sum (before * d) (placed q first i from j) (λ p. is_stepped (from + j) i (p / d) && is_open_period q first p)
+      (placed q first i from (j + 1)) (λ p. place_more i (omega (arith, less)) from j less (p / d) (is_open_period q first p)) in
+      omega (arith, sum, et, em)
 
   -- a step some runs of days later has the same clock
   pub step_later : (x t : ℕ) → first ≤ x → timely (x + q.interval * t * d) ≡ timely x
@@ -154,40 +99,32 @@ module _ {q : EffectiveRule} {first from before : ℕ} (run : IsDayRun q first f
         in_order : (s a b c : Bool) {t : Bool} → (s ≡ true → (a && c) ≡ t) → (s && (a && (b && c))) ≡ ((s && b) && t)
         in_order s a b c h = grind arith
 
-    placed_next : {total : ℕ} → total ≡ count (before * d) (placed q first from j)
-        → total + count before on_day * count d times ≡ count (before * d) (placed q first from (j + 1))
-    placed_next et =
-        let sum = count-sum (before * d) (placed q first from j) (λ p. is_stepped (from + j) q.interval (p / d) && is_open_period q first p)
-        (placed q first from (j + 1)) (λ p. place_more q.interval run.some from j less (p / d) (is_open_period q first p)) in
-        let own = count-same (before * d) (λ p. is_stepped (from + j) q.interval (p / d) && is_open_period q first p)
-        (λ p. on_day (p / d) && times (p % d)) (λ p l. one_place p) ∙ count-product before d on_day times in
-        omega (arith, sum, own, et)
-
-    pub placed_more : {total days unit : ℕ} (steps : ℕ) → total ≡ count (before * d) (placed q first from j) → days ≡ count before on_day
+    pub placed_more : {total days unit : ℕ} (steps : ℕ) → total ≡ count (before * d) (placed q first q.interval from j) → days ≡ count before on_day
         → unit ≡ seconds_of q.frequency
         → steps + count ((from + j) * (86_400 / unit)) timely ≡ count ((from + j + 1) * (86_400 / unit)) timely
-        → total + days * steps ≡ count (before * d) (placed q first from (j + 1))
+        → total + days * steps ≡ count (before * d) (placed q first q.interval from (j + 1))
     placed_more steps et ed eu es =
         let own = rw (eu, (day_seconds q.frequency run.fine run.unit).1) at es in
         let day = count-add ((from + j) * d) d timely in
         let end = ap (λ x. count x timely) (let same : (from + j + 1) * d ≡ (from + j) * d + d = omega arith in same) in
         let one : steps ≡ count d times = omega (arith, day, end, own) in
-        rw (ed, one) (placed_next et)
+        rw (ed, one) (placed_next less et (sym (count-same (before * d) (λ p. is_stepped (from + j) q.interval (p / d) && is_open_period q first p)
+        (λ p. on_day (p / d) && times (p % d)) (λ p l. one_place p) ∙ count-product before d on_day times)))
 
-  pub placed_all : {total j : ℕ} → j ≡ min q.interval (before - from) → total ≡ count (before * d) (placed q first from j)
+  pub placed_all : {i total j : ℕ} → 1 ≤ i → min i (before - from) ≤ j → total ≡ count (before * d) (placed q first i from j)
       → total + count (from * d) (is_open_period q first) ≡ count (before * d) (is_open_period q first)
-  placed_all {total = total} {j = j} ej et =
-      let none = count-none (from * d) (placed q first from j) early in
-      count_between total (placed q first from j) (is_open_period q first) (mul-le-mul_right d run.order) inside (omega (arith, none, et))
+  placed_all {i = i} {total = total} {j = j} some all et =
+      let none = count-none (from * d) (placed q first i from j) early in
+      count_between total (placed q first i from j) (is_open_period q first) (mul-le-mul_right d run.order) inside (omega (arith, none, et))
     where
       some_periods : 1 ≤ d
       some_periods = (day_some q.frequency).0
 
-      early : (p : ℕ) → p < from * d → placed q first from j p ≡ false
+      early : (p : ℕ) → p < from * d → placed q first i from j p ≡ false
       early p l = grind (arith, nat_tests, div_below, some_periods)
 
-      inside : (p : ℕ) → from * d ≤ p → p < before * d → placed q first from j p ≡ is_open_period q first p
-      inside p l h = let some = run.some in grind (arith, nat_tests, div-add-mod', div_below, le-div, mod-lt, some_periods)
+      inside : (p : ℕ) → from * d ≤ p → p < before * d → placed q first i from j p ≡ is_open_period q first p
+      inside p l h = grind (arith, nat_tests, div-add-mod', div_below, le-div, mod-lt, some_periods)
 
 -- within one day
 module _ (q : EffectiveRule) (first : ℕ) {from before : ℕ} (order : from ≤ before) (day : before ≤ (from / per_day q.frequency + 1) * per_day q.frequency) where

@@ -16,7 +16,8 @@ use Rattle.std.proofs.Math.Nat.{mul-le-mul_right}
 use Rattle.ics_period.proofs.PeriodLemmas.{begun, period_mono}
 use Rattle.ics_period.proofs.Counts.{count_most}
 use Rattle.ics_rule.proofs.CountLemmas.{IsCountedStep, none_before_first}
-use Rattle.ics_rule.proofs.RoundLemmas.{repeats_often, step_repeats}
+use Rattle.ics_period.proofs.CountBounds.{repeats_often}
+use Rattle.ics_rule.proofs.RoundLemmas.{step_repeats}
 use Rattle.ics_period.proofs.IntervalLemmas.{stepped_parts, none_between}
 use Rattle.ics_rule.proofs.CursorLemmas.{meets, moved_on, own_moved, looks_once}
 use Rattle.ics_rule.proofs.WalkLemmas.{step_first}

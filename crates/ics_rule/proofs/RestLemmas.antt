@@ -1,15 +1,18 @@
 -- The periods that a rule lets in, counted day by day.
-use Rattle.std.proofs.Common.{◌≡◌, ◌∙◌, ℕ, ◌+◌, ◌-◌, ◌*◌, ◌/◌, ◌%◌, ◌<◌, ◌≤◌, true, false, min, sym, ap, arith}
+use Rattle.std.proofs.Common.{◌≡◌, ◌∙◌, ℕ, ◌+◌, ◌-◌, ◌*◌, ◌/◌, ◌%◌, ◌<◌, ◌≤◌, Bool, true, false, ◌&&◌, nat_lt, cond, min, sym, ap, arith}
+use Rattle.std.proofs.lemmas.Bool.Decides.{nat_tests}
 use Rattle.std.proofs.lemmas.Nat.{div-add-mod', div-mul-add, le-div, div_below}
 use Rattle.std.proofs.Math.Nat.{add-mul, mul_comm, mul-le-mul_right}
 use Rattle.ics_period.specs.declared.effective_rule.EffectiveRule.{EffectiveRule}
-use Rattle.ics_period.specs.Candidates.{lets_date}
+use Rattle.ics_period.specs.Candidates.{lets_date, is_stepped}
 use Rattle.ics_period.specs.Ranks.{count}
 use Rattle.ics_rule.specs.Inner.Rounds.{seconds_of}
-use Rattle.ics_rule.specs.Inner.OpenPeriods.{per_day, is_timely, timely_on, is_open_period}
+use Rattle.ics_rule.specs.Inner.OpenPeriods.{per_day, lets_own, is_timely, is_timely_on, timely_on, is_open_period}
 use Rattle.ics_period.proofs.Counts.{count-same, count-add, count_most}
+use Rattle.ics_period.proofs.CycleLemmas.{date_by_place, date_of_round}
+use Rattle.ics_period.proofs.IntervalLemmas.{steps_among}
 use Rattle.ics_period.proofs.RankLemmas.{count_flat}
-use Rattle.ics_rule.proofs.OpenLemmas.{IsDayRun, day_some, step_later}
+use Rattle.ics_rule.proofs.OpenLemmas.{IsDayRun, day_some, step_later, placed, placed_next}
 
 module _ (q : EffectiveRule) (first : ℕ) where
   abbrev d : ℕ
@@ -29,38 +32,51 @@ module _ (q : EffectiveRule) (first : ℕ) where
       let most = count_most d (λ k. is_timely q first (day * d + k)) in
       (omega (arith, e, whole), omega (arith, e, whole, most, (day_some q.frequency).1))
 
-  -- on an allowed day each is let in
-  day_more : (day : ℕ) → lets_date q day ≡ true
-      → count ((day + 1) * d) (is_open_period q first) ≡ count (day * d) (is_open_period q first) + timely_on q first day
-  day_more day is =
-      let whole = ap (λ x. count x (is_open_period q first)) (next_day day) ∙ count-add (day * d) d (is_open_period q first) in
-      let same = count-same d (λ k. is_open_period q first (day * d + k)) (λ k. is_timely q first (day * d + k)) (λ k l.
-      let at = div-mul-add day d k l in grind (arith, at, is)) in
-      omega (arith, whole, same)
+  -- where each time is allowed, by the next step
+  pub steps_at_once : (day : ℕ) {number : ℕ} → ((n : ℕ) → lets_own q.frequency q n ≡ true) → 1 ≤ q.interval → first ≤ day * d
+      → is_stepped first q.interval number ≡ true → day * d ≤ number → number < day * d + q.interval
+      → timely_on q first day ≡ d / q.interval + cond (nat_lt (number - day * d) (d % q.interval)) 1 0
+  steps_at_once day every some first_low is low high =
+      let same = count-same d (λ k. is_timely q first (day * d + k)) (λ k. is_stepped first q.interval (day * d + k)) (λ k l.
+      let all = every ((day * d + k) * seconds_of q.frequency) in grind (arith, all)) in
+      let whole = count-add (day * d) d (is_stepped first q.interval) in
+      let among = steps_among q.interval some d is first_low low high in
+      omega (arith, same, whole, among)
 
-  -- and on other days none is
-  pub days_none : {from before : ℕ} → from ≤ before → ((e : ℕ) → from ≤ e → e < before → lets_date q e ≡ false)
-      → count (before * d) (is_open_period q first) ≡ count (from * d) (is_open_period q first)
-  days_none {from = from} {before = before} order none =
-      count_flat (from * d) (before * d) (is_open_period q first) (mul-le-mul_right d order)
-      (λ m l u. let out = none (m / d) (le-div from m d some_periods l) (div_below m d before some_periods u) in grind (arith, out))
+  -- Of some days.
+  module _ (days : ℕ → Bool) where
+    -- on one of them each is counted
+    day_more : (day : ℕ) → days day ≡ true
+        → count ((day + 1) * d) (is_timely_on q first days) ≡ count (day * d) (is_timely_on q first days) + timely_on q first day
+    day_more day is =
+        let whole = ap (λ x. count x (is_timely_on q first days)) (next_day day) ∙ count-add (day * d) d (is_timely_on q first days) in
+        let same = count-same d (λ k. is_timely_on q first days (day * d + k)) (λ k. is_timely q first (day * d + k)) (λ k l.
+        let at = div-mul-add day d k l in grind (arith, at, is)) in
+        omega (arith, whole, same)
 
-  -- a walk over days from one on, in which the periods of those before the next are counted
-  module _ (from before day total : ℕ) (inside : day < before)
-      (passed : total + count (from * d) (is_open_period q first) ≡ count (min day before * d) (is_open_period q first)) where
-    passed_here : total + count (from * d) (is_open_period q first) ≡ count (day * d) (is_open_period q first)
-    passed_here = let here : min day before ≡ day = omega (arith, inside) in rw here at passed
+    -- and on other days none is
+    pub days_none : {from before : ℕ} → from ≤ before → ((e : ℕ) → from ≤ e → e < before → days e ≡ false)
+        → count (before * d) (is_timely_on q first days) ≡ count (from * d) (is_timely_on q first days)
+    days_none {from = from} {before = before} order none =
+        count_flat (from * d) (before * d) (is_timely_on q first days) (mul-le-mul_right d order)
+        (λ m l u. let out = none (m / d) (le-div from m d some_periods l) (div_below m d before some_periods u) in grind (arith, out))
 
-    pub day_added : {new : ℕ} → lets_date q day ≡ true → new ≡ total + timely_on q first day
-        → new + count (from * d) (is_open_period q first) ≡ count (min (day + 1) before * d) (is_open_period q first)
-    day_added is e =
-        let next : min (day + 1) before ≡ day + 1 = omega (arith, inside) in
-        let more = day_more day is in let was = passed_here in rw next (omega (arith, e, was, more))
+    -- a walk over days from one on, in which the periods of those before the next are counted
+    module _ (from before day total : ℕ) (inside : day < before)
+        (passed : total + count (from * d) (is_timely_on q first days) ≡ count (min day before * d) (is_timely_on q first days)) where
+      passed_here : total + count (from * d) (is_timely_on q first days) ≡ count (day * d) (is_timely_on q first days)
+      passed_here = let here : min day before ≡ day = omega (arith, inside) in rw here at passed
 
-    pub days_passed : (off : ℕ) → ((e : ℕ) → day ≤ e → e < day + off → lets_date q e ≡ false)
-        → total + count (from * d) (is_open_period q first) ≡ count (min (day + off) before * d) (is_open_period q first)
-    days_passed off none =
-        passed_here ∙ sym (days_none {from = day} {before = min (day + off) before} (omega (arith, inside)) (λ e l u. none e l (omega (arith, u))))
+      pub day_added : {new : ℕ} → days day ≡ true → new ≡ total + timely_on q first day
+          → new + count (from * d) (is_timely_on q first days) ≡ count (min (day + 1) before * d) (is_timely_on q first days)
+      day_added is e =
+          let next : min (day + 1) before ≡ day + 1 = omega (arith, inside) in
+          let more = day_more day is in let was = passed_here in rw next (omega (arith, e, was, more))
+
+      pub days_passed : (off : ℕ) → ((e : ℕ) → day ≤ e → e < day + off → days e ≡ false)
+          → total + count (from * d) (is_timely_on q first days) ≡ count (min (day + off) before * d) (is_timely_on q first days)
+      days_passed off none =
+          passed_here ∙ sym (days_none {from = day} {before = min (day + off) before} (omega (arith, inside)) (λ e l u. none e l (omega (arith, u))))
 
   -- as many days later as the interval has, a day has as many steps
   pub rest_same : (from day : ℕ) → 0 < seconds_of q.frequency → seconds_of q.frequency ≤ 86_400 → 1 ≤ q.interval → first < from * d → from ≤ day
@@ -78,3 +94,27 @@ module _ (q : EffectiveRule) (first : ℕ) where
       let same : day * d + k ≡ (from + j) * d + k + q.interval * t * d = omega (arith, wide, spread) in
       let low : first ≤ (from + j) * d + k = (let apart = add-mul from j d in omega (arith, later, apart)) in
       sym (ap (is_timely q first) same ∙ step_later run ((from + j) * d + k) t low))
+
+-- Days by rounds of the calendar.
+module _ {q : EffectiveRule} {first from before : ℕ} (run : IsDayRun q first from before) where
+  -- an allowed day, and those that follow it by rounds
+  pub rounds_more : {day total more : ℕ} → from ≤ day → day < from + 146_097 → lets_date q day ≡ true
+      → total ≡ count (before * per_day q.frequency) (placed q first 146_097 from (day - from))
+      → more ≡ count (before * per_day q.frequency) (is_timely_on q first (is_stepped day 146_097))
+      → total + more ≡ count (before * per_day q.frequency) (placed q first 146_097 from (day + 1 - from))
+  rounds_more {day = day} low high is et em =
+      let here : from + (day - from) ≡ day = omega (arith, low) in
+      let next : day + 1 - from ≡ day - from + 1 = omega (arith, low) in
+      let own = count-same (before * per_day q.frequency) (is_timely_on q first (is_stepped day 146_097))
+      (λ p. is_stepped day 146_097 (p / per_day q.frequency) && is_open_period q first p)
+      (λ p l. let same = date_of_round q day (p / per_day q.frequency) is in grind (arith, nat_tests, same)) in
+      rw next (placed_next run (omega (arith, low, high)) et (rw here (em ∙ own)))
+
+  -- days of which none is allowed, nor those that follow them by rounds
+  pub rounds_none : {day : ℕ} (off : ℕ) → from ≤ day → ((e : ℕ) → day ≤ e → e < day + off → lets_date q e ≡ false)
+      → count (before * per_day q.frequency) (placed q first 146_097 from (day - from))
+      ≡ count (before * per_day q.frequency) (placed q first 146_097 from (day + off - from))
+  rounds_none {day = day} off low none =
+      count-same (before * per_day q.frequency) (placed q first 146_097 from (day - from)) (placed q first 146_097 from (day + off - from))
+      (λ p l. let same = date_by_place q {from = from} (p / per_day q.frequency) in
+      let out = none (from + (p / per_day q.frequency - from) % 146_097) in grind (arith, nat_tests, same, out))

@@ -1,5 +1,5 @@
 -- What a rule allows repeats after a round of periods.
-use Rattle.std.proofs.Common.{◌≡◌, ℕ, zero, suc, ◌+◌, ◌-◌, ◌*◌, ◌/◌, ◌%◌, ◌<◌, ◌≤◌, ◌⊎◌, Bool, true, ◌&&◌, refl, sym, subst, ap, ◌∙◌, arith}
+use Rattle.std.proofs.Common.{◌≡◌, ℕ, ◌+◌, ◌-◌, ◌*◌, ◌/◌, ◌%◌, ◌<◌, ◌≤◌, ◌⊎◌, true, ◌&&◌, refl, sym, subst, ap, ◌∙◌, arith}
 use Rattle.std.proofs.lemmas.Bool.Decides.{nat_tests}
 use Rattle.std.proofs.lemmas.Nat.{div-add-mod'}
 use Rattle.std.proofs.Math.Nat.{add-mul-mod_self_right, mul_assoc, mul_comm}
@@ -15,6 +15,7 @@ use Rattle.ics_period.specs.Candidates.{lets, lets_numbered, lets_date, lets_clo
 use Rattle.ics_period.specs.DateParts.{names_weekdays_alone}
 use Rattle.ics_period.specs.RecurrencePeriods.{first_local}
 use Rattle.ics_rule.specs.Inner.Rounds.{seconds_of, IsRound}
+use Rattle.ics_period.proofs.CountBounds.{repeats_often}
 use Rattle.ics_period.proofs.DateLemmas.{weekdays_alone}
 use Rattle.ics_period.proofs.Tests.{positive}
 
@@ -54,12 +55,6 @@ unit_period f w n j h = grind arith
 
 unit_first : (f : Frequency) (w p j : ℕ) → 0 < seconds_of f → 2 ≤ p → first_local f w (p + j) ≡ first_local f w p + j * seconds_of f
 unit_first f w p j h l = grind arith
-
--- a test that repeats after a repeats after each multiple
-pub repeats_often : (f : ℕ → Bool) {low : ℕ} (a : ℕ) → ((n : ℕ) → low ≤ n → f (n + a) ≡ f n) → (j n : ℕ) → low ≤ n → f (n + j * a) ≡ f n
-repeats_often f a on zero n l = ap f (let same : n + 0 * a ≡ n = omega arith in same)
-repeats_often f a on (suc j) n l = ap f (let same : n + suc j * a ≡ n + j * a + a = omega arith in same) ∙ on (n + j * a) (omega (arith, l))
-    ∙ repeats_often f a on j n l
 
 pub step_repeats : (i d first p : ℕ) → first ≤ p → is_stepped first i (p + i * d) ≡ is_stepped first i p
 step_repeats i d first p l = grind (arith, nat_tests, add-mul-mod_self_right (p - first) d i, mul_comm i d)

@@ -17,7 +17,7 @@ use Rattle.ics_rule.specs.Table.{Part, ByDay, Nothing, cell}
 use Rattle.ics_rule.specs.ByTable.{is_absent, is_member, IsAllowed}
 use Rattle.ics_period.proofs.Tests.{and_true}
 use Rattle.ics_rule.proofs.TableCounts.{days_from, members_by_days}
-use Rattle.ics_rule.proofs.Samples.{on_weekdays, nth_weekday, date, local, rule, mo, tu, fr}
+use Rattle.ics_period.proofs.Samples.{on_weekdays, nth_weekday, date, local, rule, mo, tu, fr}
 
 -- the days of a span that a rule has at 9:00, which starts on a day at 9:00
 abbrev listed : RuleParts → ℕ → ℕ → ℕ → ℕ → ℕ → List ℕ

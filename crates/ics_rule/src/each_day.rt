@@ -1,14 +1,16 @@
-//! How many periods shorter than a day a rule allows, where it allows few days: those of each such day are added.
+//! How many periods shorter than a day a rule allows, by a look at each day: at all days if it allows few, or at those of one round of the calendar.
 ghost use Rattle.std.specs.Prelude.{◌≡◌, ℕ, true, false, length, slice_index_or, MatchOption, ◌<◌, ◌≤◌, ◌+◌, ◌*◌};
 ghost use Rattle.ics_fields.specs.Days.{days_before_year};
+ghost use Rattle.ics_period.specs.Candidates.{is_stepped};
 ghost use Rattle.ics_period.specs.Ranks.{count};
 ghost use Rattle.ics_rule.specs.Inner.Rounds.{seconds_of};
-ghost use Rattle.ics_rule.specs.Inner.OpenPeriods.{per_day, timely_on, is_open_period, HasRests};
+ghost use Rattle.ics_rule.specs.Inner.OpenPeriods.{per_day, lets_own, is_timely_on, timely_on, is_open_period, HasRests};
 
 use crate::open_periods::{A_SHORT_MONTH, lets_all_times, steps_let_in};
 use crate::pass::days_out_near;
 use crate::rounds::seconds_of;
 use crate::search::Search;
+use crate::walk::next_step;
 use ics_period::{NearDays, lets_date, lists_days, names_weekdays_alone};
 
 /// If the interval is no longer, the steps of so many days that follow each other are counted once: those of a day are as many as they were so
@@ -109,6 +111,71 @@ pub(crate) fn open_of_each(search: &Search<'_>, from: u64, before: u64) -> u64
         let off = days_out_near(parts, &near, day as u32);
         if off == 0 {
             total += steps_at(search, &steps, from, day);
+        }
+        day += off.max(1) as u64;
+    }
+    total
+}
+
+/// After so many days, those of 400 years, a rule allows the same dates.
+const ROUND: u64 = 146_097;
+
+/// Whether a look at each day of a round, with the steps of those that follow it by rounds, takes less than one at all of so many days.
+pub(crate) fn goes_by_rounds(search: &Search<'_>, days: u64) -> bool {
+    seconds_of(search.parts.frequency) < 86_400 && days >= 2 * ROUND
+}
+
+/// How many steps there are, where each time is allowed, on a day and on those that follow it by whole rounds, before another. The next step of
+/// each is some whole intervals after that of the one before it, and at most one more.
+fn steps_in_rounds(search: &Search<'_>, from: u64, before: u64) -> u64
+    requires fine { 0 < seconds_of search.now.parts.now.frequency }
+    requires unit { seconds_of search.now.parts.now.frequency ≤ 86400 }
+    requires every { (n : ℕ) → lets_own search.now.parts.now.frequency search.now.parts.now n ≡ true }
+    requires first { search.now.first ≤ from * per_day search.now.parts.now.frequency }
+    requires order { from ≤ before }
+    requires before { before ≤ days_before_year 9_801 + 1 }
+    ensures { result ≡ count (before * per_day search.now.parts.now.frequency)
+        (is_timely_on search.now.parts.now search.now.first (is_stepped from 146_097)) }
+{
+    let interval = search.parts.interval as u64;
+    let per_day = 86_400 / seconds_of(search.parts.frequency);
+    let leap = ROUND * per_day / interval * interval;
+    let mut number = next_step(search.first, search.parts.interval, from * per_day);
+    let mut total = 0;
+    let mut day = from;
+    while day < before {
+        let is_more = number - day * per_day < per_day % interval;
+        total += per_day / interval + u64::from(is_more);
+        day += ROUND;
+        number += leap;
+        if number < day * per_day {
+            number += interval;
+        }
+    }
+    total
+}
+
+/// How many periods of whole days are allowed, where each time of day is. A day is looked at once for all that follow it by whole rounds.
+pub(crate) fn open_of_rounds(search: &Search<'_>, from: u64, before: u64) -> u64
+    requires fine { 0 < seconds_of search.now.parts.now.frequency }
+    requires unit { seconds_of search.now.parts.now.frequency ≤ 86400 }
+    requires every { (n : ℕ) → lets_own search.now.parts.now.frequency search.now.parts.now n ≡ true }
+    requires first { search.now.first < from * per_day search.now.parts.now.frequency }
+    requires order { from ≤ before }
+    requires before { before ≤ days_before_year 9_801 + 1 }
+    ensures { result + count (from * per_day search.now.parts.now.frequency) (is_open_period search.now.parts.now search.now.first)
+        ≡ count (before * per_day search.now.parts.now.frequency) (is_open_period search.now.parts.now search.now.first) }
+{
+    let parts = search.parts;
+    let end = before.min(from + ROUND);
+    let mut near = NearDays::new(if lists_days(parts) { 0 } else { u32::MAX });
+    let mut total = 0;
+    let mut day = from;
+    while day < end {
+        near.turn_to(parts, day as u32);
+        let off = days_out_near(parts, &near, day as u32);
+        if off == 0 {
+            total += steps_in_rounds(search, day, before);
         }
         day += off.max(1) as u64;
     }

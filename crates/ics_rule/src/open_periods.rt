@@ -9,7 +9,7 @@ ghost use Rattle.ics_fields.specs.Days.{days_before_year};
 ghost use Rattle.ics_period.specs.PeriodNumbers.{rules_end};
 
 use crate::cursor::{Cursor, RULES_END};
-use crate::each_day::{lets_few, open_of_each};
+use crate::each_day::{goes_by_rounds, lets_few, open_of_each, open_of_rounds};
 use crate::never::size_of_open;
 use crate::pass::{days_of_closed_month, next_open_day, next_open_second};
 use crate::rounds::{calendar_round, seconds_of};
@@ -175,9 +175,14 @@ fn open_of_days(search: &Search<'_>, from: u64, before: u64) -> u64
         ≡ count (before * per_day search.now.parts.now.frequency) (is_open_period search.now.parts.now search.now.first) }
 {
     let end = before as u32;
-    if !lets_all_times(search.parts) && next_open_day(search.parts, from as u32, end, true) >= end {
-        0
-    } else if lets_few(search, from) {
+    if lets_all_times(search.parts) {
+        if goes_by_rounds(search, before - from) {
+            return open_of_rounds(search, from, before);
+        }
+    } else if next_open_day(search.parts, from as u32, end, true) >= end {
+        return 0;
+    }
+    if lets_few(search, from) {
         open_of_each(search, from, before)
     } else {
         open_of_rests(search, from, before)

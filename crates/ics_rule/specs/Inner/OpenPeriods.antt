@@ -49,10 +49,14 @@ abbrev pub HasRests : EffectiveRule → ℕ → ℕ → List ℕ → Type 0
 HasRests q first from steps =
     (q.interval ≤ length steps) × ((k : ℕ) → k < q.interval → slice_index_or steps k 0 ≡ timely_on q first (from + k))
 
+-- a period is one of them, on one of some days
+abbrev pub is_timely_on : EffectiveRule → ℕ → (ℕ → Bool) → ℕ → Bool
+is_timely_on q first days p =
+    is_stepped first q.interval p && (days (p / per_day q.frequency) && lets_own q.frequency q (p * seconds_of q.frequency))
+
 -- a period is a multiple of the interval after the first, and the rule allows a local of it
 abbrev pub is_open_period : EffectiveRule → ℕ → ℕ → Bool
-is_open_period q first p =
-    is_stepped first q.interval p && (lets_date q (p / per_day q.frequency) && lets_own q.frequency q (p * seconds_of q.frequency))
+is_open_period q first = is_timely_on q first (lets_date q)
 
 -- how many allowed locals each such period has
 abbrev pub size_of_open : EffectiveRule → ℕ

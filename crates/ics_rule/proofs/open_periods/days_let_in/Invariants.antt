@@ -1,7 +1,7 @@
 use Rattle.std.proofs.Common.{◌-◌}
 use Rattle.ics_period.specs.Candidates.{lets_date}
 use Rattle.ics_period.specs.NearDays.{AreNear}
-use Rattle.ics_rule.proofs.OpenLemmas.{IsStepWalk}
+use Rattle.ics_period.proofs.StepWalks.{IsStepWalk}
 use Rattle.ics_rule.proofs.open_periods.days_let_in.Given as goal
 
 abbrev pub invariant-loop-day : goal.invariant-loop-day

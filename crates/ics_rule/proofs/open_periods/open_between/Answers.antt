@@ -1,14 +1,14 @@
 -- The periods of a day or less that a rule lets in repeat with the calendar.
-use Rattle.std.proofs.Common.{◌≡◌, ℕ, zero, suc, ◌+◌, ◌*◌, ◌/◌, ◌<◌, ◌≤◌, Bool, ap, ◌∙◌, arith, ◌-◌}
+use Rattle.std.proofs.Common.{◌≡◌, ℕ, ◌+◌, ◌*◌, ◌/◌, ◌<◌, ◌≤◌, arith, ◌-◌}
 use Rattle.ics_fields.specs.declared.frequency.Frequency.{Frequency}
 use Rattle.ics_period.specs.declared.effective_rule.EffectiveRule.{EffectiveRule}
 use Rattle.ics_period.specs.Ranks.{count}
 use Rattle.ics_rule.specs.Inner.Rounds.{seconds_of, calendar_periods, IsCalendarRound}
 use Rattle.ics_rule.specs.Inner.OpenPeriods.{per_day, is_open_period}
-use Rattle.ics_period.proofs.Counts.{count-same, count-add, count_most}
-use Rattle.ics_rule.proofs.RoundLemmas.{repeats_often}
+use Rattle.ics_period.proofs.Counts.{count-add, count_most}
+use Rattle.ics_period.proofs.CountBounds.{count_rounds}
 use Rattle.ics_rule.proofs.OpenLemmas.{own_day}
-use Rattle.ics_rule.proofs.CycleLemmas.{date_again}
+use Rattle.ics_period.proofs.CycleLemmas.{date_again}
 use Rattle.ics_rule.proofs.CalendarRounds.{calendar_step}
 use Rattle.ics_rule.proofs.open_periods.open_between.Goals.{After-open_by_days-rest}
 use Rattle.ics_rule.proofs.open_periods.open_between.Goals as goal
@@ -19,16 +19,6 @@ day_again f p k h u = grind arith
 second_again : (f : Frequency) (p k : ℕ) → 0 < seconds_of f → seconds_of f ≤ 86_400 →
     (p + k * calendar_periods f) * seconds_of f ≡ p * seconds_of f + 146_097 * k * 86_400
 second_again f p k h u = grind arith
-
--- the members of whole rounds, of a test that repeats after each
-count_rounds : (f : ℕ → Bool) {a : ℕ} (s : ℕ) → ((n : ℕ) → a ≤ n → f (n + s) ≡ f n) → (j : ℕ)
-    → count (a + j * s) f ≡ count a f + j * count s (λ k. f (a + k))
-count_rounds f {a = a} s on zero = let same : a + 0 * s ≡ a = omega arith in rw same (omega arith)
-count_rounds f {a = a} s on (suc j) =
-    let whole : a + suc j * s ≡ a + j * s + s = omega arith in
-    let same = count-same s (λ k. f (a + j * s + k)) (λ k. f (a + k)) (λ k l. ap f (let order : a + j * s + k ≡ a + k + j * s = omega arith in order)
-    ∙ repeats_often f {low = a} s on j (a + k) (omega arith)) in
-    rw (whole, count-add (a + j * s) s f, same, count_rounds f {a = a} s on j) (omega arith)
 
 module _ (q : EffectiveRule) (first periods : ℕ) (round : IsCalendarRound q periods) (fine : 0 < seconds_of q.frequency)
     (unit : seconds_of q.frequency ≤ 86_400) where

@@ -12,7 +12,7 @@ run : (c : After-min-j-end) → IsDayRun c.args.search.now.parts.now c.args.sear
 run c = record { fine = c.requires.fine; unit = c.requires.unit; some = c.args.search.now.interval; later = c.requires.first; order = c.requires.order }
 
 pub loop-j-init : goal.loop-j-init
-loop-j-init c = placed_none (run c)
+loop-j-init c = placed_none (run c) c.args.search.now.parts.now.interval
 
 -- the sum of the days so far is small
 small : (c : After-days_let_in) → IsDayRun c.args.search.now.parts.now c.args.search.now.first c.args.from c.args.before
@@ -21,7 +21,7 @@ small c run =
     let all = placed_more run (omega (arith, c.loop-j-test.true, c.min-j-end.ensures)) c.steps_let_in-steps.result c.loop-j.invariant
     c.days_let_in.ensures.value c.seconds_of-per_day.ensures.value c.steps_let_in-steps.ensures in
     let most = count_most (c.args.before * per_day c.args.search.now.parts.now.frequency)
-    (placed c.args.search.now.parts.now c.args.search.now.first c.args.from (c.loop-j.j + 1)) in
+    (placed c.args.search.now.parts.now c.args.search.now.first c.args.search.now.parts.now.interval c.args.from (c.loop-j.j + 1)) in
     let high = mul-le c.args.before (per_day c.args.search.now.parts.now.frequency) 3_579_743 86_400 c.requires.before
     (day_some c.args.search.now.parts.now.frequency).1 in
     omega (arith, all, most, high)
@@ -48,5 +48,5 @@ loop-j-preserved c =
     ]
 
 pub returns : goal.returns
-returns c = placed_all (run (goal.at.returns c).After-min-j-end)
+returns c = placed_all (run (goal.at.returns c).After-min-j-end) c.args.search.now.interval
     (omega (arith, c.loop-j-test.false, c.loop-j.auto.j-end, c.min-j-end.ensures)) c.loop-j.invariant

@@ -1,7 +1,7 @@
 use Rattle.std.proofs.Common.{◌-◌, ◌*◌}
 use Rattle.ics_rule.specs.Inner.Rounds.{seconds_of}
 use Rattle.ics_rule.specs.Inner.OpenPeriods.{lets_own}
-use Rattle.ics_rule.proofs.OpenLemmas.{IsStepWalk}
+use Rattle.ics_period.proofs.StepWalks.{IsStepWalk}
 use Rattle.ics_rule.proofs.open_periods.steps_let_in.Given as goal
 
 abbrev pub invariant-loop-number : goal.invariant-loop-number

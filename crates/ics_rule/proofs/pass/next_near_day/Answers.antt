@@ -1,6 +1,6 @@
 use Rattle.std.proofs.Common.{arith}
 use Rattle.ics_period.specs.Candidates.{lets_date}
-use Rattle.ics_rule.proofs.CycleLemmas.{none_again}
+use Rattle.ics_period.proofs.CycleLemmas.{none_again}
 use Rattle.ics_rule.proofs.PassLemmas.{out_on}
 use Rattle.ics_rule.proofs.pass.next_near_day.Goals as goal
 

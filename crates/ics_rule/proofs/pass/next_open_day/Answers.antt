@@ -1,7 +1,7 @@
 use Rattle.std.proofs.Common.{inl, inr, arith}
 use Rattle.std.proofs.lemmas.Bool.{cases_lt}
 use Rattle.ics_period.specs.Candidates.{lets_date}
-use Rattle.ics_rule.proofs.CycleLemmas.{none_again}
+use Rattle.ics_period.proofs.CycleLemmas.{none_again}
 use Rattle.ics_rule.proofs.PassLemmas.{out_on}
 use Rattle.ics_rule.proofs.pass.next_open_day.Goals as goal
 

@@ -1,5 +1,5 @@
 -- The calendar repeats after 400 years, which are 146,097 days.
-use Rattle.std.proofs.Common.{◌≡◌, ℕ, zero, suc, ◌+◌, ◌-◌, ◌*◌, ◌/◌, ◌%◌, ◌<◌, ◌≤◌, inl, inr, false, cond, ◌||◌, ◌==◌, pos, refl, ap, ◌∙◌, arith}
+use Rattle.std.proofs.Common.{◌≡◌, ℕ, zero, suc, ◌+◌, ◌-◌, ◌*◌, ◌/◌, ◌%◌, ◌<◌, ◌≤◌, inl, inr, true, false, cond, ◌||◌, ◌==◌, pos, refl, ap, ◌∙◌, arith}
 use Rattle.std.proofs.lemmas.Bool.{cases_lt}
 use Rattle.jiff_core.specs.Calendar.{is_leap_year, days_in_year, days_in_month, days_of_months}
 use Rattle.ics_fields.specs.declared.frequency.Frequency.{Frequency}
@@ -8,7 +8,8 @@ use Rattle.ics_fields.specs.Days.{days_before_year, year_of, year_day_of, month_
 use Rattle.ics_fields.proofs.DayLemmas.{year_under_way, year_of_is}
 use Rattle.ics_period.specs.declared.effective_rule.EffectiveRule.{EffectiveRule}
 use Rattle.ics_period.specs.PeriodNumbers.{week_of}
-use Rattle.ics_period.specs.Candidates.{lets_place, lists_nth, fourth_day, week_number, weeks_of_year, lets_numbered, lets_date}
+use Rattle.ics_period.specs.Candidates.{lets_place, lists_nth, fourth_day, week_number, weeks_of_year, lets_numbered, lets_date, is_stepped}
+use Rattle.ics_period.proofs.IntervalLemmas.{stepped_parts}
 use Rattle.ics_period.proofs.PeriodLemmas.{fourth_early, fourth_late}
 
 -- k times 400 years later
@@ -88,14 +89,25 @@ week_place p w k e some = let f = fourth_again w k e some in
 pub date_again : (q : EffectiveRule) (k e : ℕ) → 1 ≤ k → lets_date q (e + 146_097 * k) ≡ lets_date q e
 date_again q k e some = grind (arith, month_again, month_day_again, numbered_again, own_month_size, year_size_of, week_place, weekday_again, year_day_again)
 
--- no date is allowed after a round in which none is
-pub none_again : (q : EffectiveRule) {from end : ℕ} → from + 146_097 ≤ end → ((e : ℕ) → from ≤ e → e < end → lets_date q e ≡ false)
-    → (e : ℕ) → from ≤ e → lets_date q e ≡ false
-none_again q {from = from} {end = end} long none e low = elim (cases_lt e end) [
-  | inl less ↦ none e low less
+-- as on the day with the same place in the round that begins with one
+pub date_by_place : (q : EffectiveRule) {from : ℕ} (e : ℕ) → from ≤ e → lets_date q e ≡ lets_date q (from + (e - from) % 146_097)
+date_by_place q {from = from} e low = elim (cases_lt (e - from) 146_097) [
+  | inl less ↦ ap (lets_date q) (omega (arith, low, less))
   | inr more ↦
       let k = (e - from) / 146_097 in
       let before = from + (e - from) % 146_097 in
       let same : e ≡ before + 146_097 * k = omega (arith, low) in
-      ap (lets_date q) same ∙ date_again q k before (omega (arith, more, long)) ∙ none before (omega arith) (omega (arith, long))
+      ap (lets_date q) same ∙ date_again q k before (omega (arith, more))
 ]
+
+-- no date is allowed after a round in which none is
+pub none_again : (q : EffectiveRule) {from end : ℕ} → from + 146_097 ≤ end → ((e : ℕ) → from ≤ e → e < end → lets_date q e ≡ false)
+    → (e : ℕ) → from ≤ e → lets_date q e ≡ false
+none_again q {from = from} long none e low =
+    date_by_place q e low ∙ none (from + (e - from) % 146_097) (omega arith) (omega (arith, long))
+
+-- an allowed day is so some rounds later too
+pub date_of_round : (q : EffectiveRule) (day e : ℕ) → lets_date q day ≡ true → is_stepped day 146_097 e ≡ true → lets_date q e ≡ true
+date_of_round q day e is stepped =
+    let at = stepped_parts day 146_097 e stepped in
+    date_by_place q e at.0 ∙ ap (lets_date q) (omega (arith, at.1)) ∙ is
