@@ -60,6 +60,13 @@ module _ (files : List FileSaid) (labels : List Label) where
   mark-of vs is place (Some m) marks are at v event there e =
       are place (Some m) (seen v) event at (ap (λ ls. slice_get ls place) is ∙ (slice_get-map seen vs place ∙ ap (option_map seen) there)) e
 
+-- what is read at a place is a mark, if each mark there is one
+pub mark-at : (event : Event) (marks : List (Option Mark)) (place : ℕ) (mark : Option Mark)
+    → ((m : Mark) → slice_get marks place ≡ Some (Some m) → IsMarkOf event (Some m))
+    → MatchOption mark (Unit {0}) (λ m. slice_get marks place ≡ Some (Some m)) → IsMarkOf event mark
+mark-at event marks place None h at = tt
+mark-at event marks place (Some m) h at = h m at
+
 -- the first of these sources
 abbrev pub first_source : Recurring → List Source → Recurring
 first_source d [] = d

@@ -18,7 +18,11 @@ use Rattle.ics_fields.specs.Locals.{local_seconds}
 use Rattle.ics_starts.specs.declared.single.Single.{Single}
 use Rattle.ics_listing.specs.declared.start.StartSource.{StartSource}
 use Rattle.ics_listing.specs.declared.start.StartSource.TheVariants.{Kept, Listed}
+use Rattle.ics_series.specs.declared.part.Part.{Part}
+use Rattle.ics_series.specs.declared.part.Part.TheVariants as part
+use Rattle.ics_series.specs.declared.singles.Singles as single
 use Rattle.ics_series.specs.declared.version.Version.{Version}
+use Rattle.ics_series.specs.AgendaParts.{part_coming, IsFirstPart}
 use Rattle.ics_listing.specs.declared.window.Window.{Window}
 use Rattle.ics_series.specs.Chosen.{overridden, subject_of, IsChosen}
 use Rattle.ics_listing.specs.FileClocks.{Clock, Clocks}
@@ -337,11 +341,18 @@ module _ (files : List FileSaid) (display : Clock) (w : Window) (after : Option 
         relisted (merged-is entry_cmp entry_total (singles ∷ more) (single.rises, rise))
         (λ e m. in-come e (from-one entry_cmp entry_total e (singles ∷ more) m)) come-first
 
-  -- so where they were pushed behind the single events
-  pub pushed-listing : {vs : List Version} (singles : List Entry) {lists : List (List Entry)} → AreChosen files display vs
-      → IsListing entry_cmp (IsSingleToCome files display w after) singles → HasLists files display w after (map seen vs) (singles ∷ []) lists
+  -- so where they were pushed behind the single events, if any of these is to come
+  pub pushed-listing : {vs : List Version} (s : single.Singles) {first : List Part} {lists : List (List Entry)} → IsFirstPart s first
+      → AreChosen files display vs → IsListing entry_cmp (IsSingleToCome files display w after) (part_coming (part.Singles s))
+      → HasLists files display w after (map seen vs) (map part_coming first) lists
       → IsListing entry_cmp (IsToCome files display w after) (merged entry_cmp lists)
-  pushed-listing {vs = vs} singles chosen single h = rw h.behind (parts-listing vs chosen singles single h.more h.are)
+  pushed-listing {vs = vs} s f chosen once h =
+      ⊎_elim (λ e. let all = rw e at h in rw all.behind (parts-listing vs chosen (part_coming (part.Singles s)) once all.more all.are))
+      (λ e.
+      let all = rw e.0 at h in
+      rw all.behind
+      (subst (λ xs. IsListing entry_cmp (IsToCome files display w after) (merged entry_cmp (xs ∷ all.more))) e.1
+      (parts-listing vs chosen (part_coming (part.Singles s)) once all.more all.are))) f
 
   -- and what comes is what of the whole listing stands after the key
   pub behind-key : {come : List Entry} → (list : List Entry) × IsListing entry_cmp (IsListed files display w) list

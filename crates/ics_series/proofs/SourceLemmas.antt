@@ -1,5 +1,5 @@
 -- The versions whose events recur, one after the other: their lists, and their masters.
-use Rattle.std.specs.List.{AllByRecursion}
+use Rattle.std.specs.List.{flat_map, AllByRecursion}
 use Rattle.std.specs.Cmp.{IsTotalOrder}
 use Rattle.std.specs.Cmp.Lexicographic.{slice_cmp}
 use Rattle.std.specs.Int.{saturate_signed, w64}
@@ -13,7 +13,10 @@ use Rattle.std.proofs.lemmas.List.{append_assoc, map-append, take-append-drop, t
 use Rattle.std.proofs.lemmas.List.Sums.{sum_by-cons}
 use Rattle.ics_file.specs.File.{FileSaid}
 use Rattle.ics_event.specs.declared.event.Event.{Event}
+use Rattle.ics_series.specs.declared.part.Part.{Part}
+use Rattle.ics_series.specs.declared.singles.Singles as single
 use Rattle.ics_series.specs.declared.version.Version.{Version}
+use Rattle.ics_series.specs.AgendaParts.{part_sources, IsFirstPart}
 use Rattle.ics_listing.specs.declared.window.Window.{Window}
 use Rattle.ics_listing.specs.FileClocks.{Clock}
 use Rattle.ics_listing.specs.Entry.{Rank, Entry, entry_cmp}
@@ -220,16 +223,26 @@ module _ {files : List FileSaid} {display : Clock} {w : Window} {after : Option 
           since = h.is.since;
         }
 
-    -- behind the events that start once
-    pub sources-behind : {sources : List Source} → HasSources files display w after (map seen vs) (Once ∷ []) sources → AreSources files display w after sources
-    sources-behind h =
+    -- with nothing before them that is of masters
+    are-sources : {before sources : List Source} (h : HasSources files display w after (map seen vs) before sources)
+        → count_by is_once (before ++ map Of h.more) ≤ 1 → recurring (before ++ map Of h.more) ≡ h.more → AreSources files display w after sources
+    are-sources h once those =
         subst (AreSources files display w after) (sym h.behind)
         (record {
           apart = (
-            omega (arith, sum_by-cons (λ s. cond (is_once s) 1 0) Once (map Of h.more), none-once h.more),
-            rw (recurring-of h.more)
-                (all-as (IsSource files display w after (map seen vs)) (λ m. is_single m.event ≡ false) h.more (λ m s. s.is.recurs) h.each, h.rises),
+            once,
+            rw those (all-as (IsSource files display w after (map seen vs)) (λ m. is_single m.event ≡ false) h.more (λ m s. s.is.recurs) h.each, h.rises),
           );
-          each = subst (AllByRecursion (IsMasterOf files display w after)) (sym (recurring-of h.more))
+          each = subst (AllByRecursion (IsMasterOf files display w after)) (sym those)
               (all-as (IsSource files display w after (map seen vs)) (IsMasterOf files display w after) h.more master-of h.each);
         })
+
+    -- behind the events that start once, if any of these is to come
+    pub sources-behind : (s : single.Singles) {first : List Part} {sources : List Source} → IsFirstPart s first
+        → HasSources files display w after (map seen vs) (flat_map part_sources first) sources → AreSources files display w after sources
+    sources-behind s f h =
+        ⊎_elim
+        (λ e.
+        let all = rw e at h in
+        are-sources all (omega (arith, sum_by-cons (λ s. cond (is_once s) 1 0) Once (map Of all.more), none-once all.more)) (recurring-of all.more))
+        (λ e. let all = rw e.0 at h in are-sources all (omega (arith, none-once all.more)) (recurring-of all.more)) f

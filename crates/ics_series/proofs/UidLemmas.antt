@@ -1,5 +1,5 @@
 -- The feeds of the masters that recur, each of one UID, stand in the order of their UIDs.
-use Rattle.std.proofs.Common.{◌≡◌, ℕ, zero, suc, List, [], ◌∷◌, get_or, map, Some, ◌∙◌, ap, arith, ◌++◌, drop, refl, slice_get, nat_cmp}
+use Rattle.std.proofs.Common.{◌≡◌, ℕ, zero, suc, List, [], ◌∷◌, get_or, map, Some, ◌∙◌, ap, arith, ◌++◌, drop, length, refl, slice_get, nat_cmp, ⊎_elim}
 use Rattle.std.specs.List.{flat_map}
 use Rattle.std.specs.Cmp.Lexicographic.{slice_cmp}
 use Rattle.std.proofs.lemmas.Bool.Decides.{nat_tests}
@@ -9,7 +9,8 @@ use Rattle.ics_listing.specs.Listing.{IsIn}
 use Rattle.ics_listing.specs.Uids.{AreSortedFrom}
 use Rattle.ics_series.specs.declared.part.Part.{Part}
 use Rattle.ics_series.specs.declared.part.Part.TheVariants.{Singles, Series}
-use Rattle.ics_series.specs.AgendaParts.{part_coming, part_sources}
+use Rattle.ics_series.specs.declared.singles.Singles as single
+use Rattle.ics_series.specs.AgendaParts.{part_coming, part_sources, IsFirstPart}
 use Rattle.ics_listing.specs.Rising.{Rises}
 use Rattle.ics_starts.specs.SeriesFeed.{series_left}
 use Rattle.ics_series.specs.Sources.{uid_cmp}
@@ -52,14 +53,23 @@ master-in (Singles s ∷ ps) (m ∷ ms) zero a e n = let no : Once ∷ flat_map 
 master-in (Singles s ∷ ps) [] i a e n = absurd (no-source e)
 master-in (Series s ∷ ps) [] i a e n = absurd (no-source e)
 
--- behind the feed of the events that start once, the order of two UIDs is that of their feeds
-pub parts-sorted : (ps : List Part) (ms : List Recurring) → flat_map part_sources ps ≡ Once ∷ map Of ms → Rises uid_cmp ms →
-    AreSortedFrom 1 (map part_coming ps)
-parts-sorted [] ms e r i a n j b low high k = absurd n
-parts-sorted (p ∷ ps) ms e r (suc i) a n (suc j) b low high k =
-    let x = master-in ps ms i a (rest-sources p e) n in
-    let y = master-in ps ms j b (rest-sources p e) k in
+-- the order of two UIDs is that of their feeds
+masters-sorted : (ps : List Part) (ms : List Recurring) → flat_map part_sources ps ≡ map Of ms → Rises uid_cmp ms → AreSortedFrom 0 (map part_coming ps)
+masters-sorted ps ms e r i a n j b low high k =
+    let x = master-in ps ms i a e n in
+    let y = master-in ps ms j b e k in
     (λ t. slice_cmp nat_cmp (x.event t).uid (y.event t).uid)
     ∙ rises-by_place uid_cmp (on_total (λ (m : Recurring). m.event.uid) nat_list_cmp_total) ms i j r x.stands y.stands
-    ∙ grind (arith, nat_tests)
-parts-sorted (p ∷ ps) ms e r _ a n _ b low high k = absurd (omega arith)
+
+-- also behind the feed of the events that start once
+behind-sorted : (ps : List Part) (ms : List Recurring) → flat_map part_sources ps ≡ Once ∷ map Of ms → Rises uid_cmp ms →
+    AreSortedFrom 1 (map part_coming ps)
+behind-sorted [] ms e r i a n j b low high k = absurd n
+behind-sorted (p ∷ ps) ms e r (suc i) a n (suc j) b low high k =
+    masters-sorted ps ms (rest-sources p e) r i a n j b (omega arith) (omega arith) k ∙ grind (arith, nat_tests)
+behind-sorted (p ∷ ps) ms e r _ a n _ b low high k = absurd (omega arith)
+
+-- so it is behind that feed, if it is there
+pub parts-sorted : (s : single.Singles) (first ps : List Part) (ms : List Recurring) → IsFirstPart s first
+    → flat_map part_sources ps ≡ flat_map part_sources first ++ map Of ms → Rises uid_cmp ms → AreSortedFrom (length first) (map part_coming ps)
+parts-sorted s first ps ms f e r = ⊎_elim (λ h. rw h (behind-sorted ps ms (rw h at e) r)) (λ h. rw h.0 (masters-sorted ps ms (rw h.0 at e) r)) f

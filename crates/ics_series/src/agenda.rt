@@ -17,7 +17,7 @@ ghost use Rattle.ics_listing.specs.Merges.{merge_all, merge_coming, merge_holds,
 ghost use Rattle.ics_listing.specs.Inner.MergesLaws.{rises-merge};
 ghost use Rattle.ics_series.specs.Occurs.{Occurs};
 ghost use Rattle.ics_series.specs.Overridden.{is_kept};
-ghost use Rattle.ics_series.specs.AgendaParts.{part_coming, part_sources};
+ghost use Rattle.ics_series.specs.AgendaParts.{part_coming, part_sources, IsFirstPart};
 ghost use Rattle.ics_series.specs.Sources.{master_of, recurring, AreApart, AreApart-prop, AreSources};
 ghost use Rattle.ics_listing.specs.FeedSources.{Recurring};
 ghost use Rattle.ics_series.specs.Steps.{HasStepBound};
@@ -123,14 +123,14 @@ impl<'a> Agenda<'a> {
         let singles = Singles::new(
             alloc, files, display, chosen, near, spans, overrides, &window, after,
         )?;
-        let mut parts = Vec::new(alloc);
-        parts.push(Part::Singles(singles))?;
+        let mut parts = first_part(alloc, singles)?;
+        let sorted_from = parts.len();
         push_series(
             alloc, &mut parts, files, display, chosen, near, spans, marks, kept, window, after,
             floor,
         )?;
-        let recurs = parts.len() > 1;
-        let merge = Merge::of_sorted(alloc, parts, 1, window.from)?;
+        let recurs = parts.len() > sorted_from;
+        let merge = Merge::of_sorted(alloc, parts, sorted_from, window.from)?;
         Ok(Agenda { merge, recurs })
     }
 
@@ -203,6 +203,18 @@ impl<'a> Feed<'a> for Agenda<'a> {
     fn next(&mut self) -> Result<Option<Occurrence<'a>>, AllocError> {
         self.merge.next()
     }
+}
+
+/// The feed of the events that start once, if there are any to come.
+fn first_part<'a>(alloc: Global, singles: Singles<'a>) -> Result<Vec<Part<'a>>, AllocError>
+    ensures { IfOk result (λ parts. IsFirstPart singles.entry parts.items) }
+{
+    let mut parts = Vec::new(alloc);
+    if singles.is_empty() {
+        return Ok(parts);
+    }
+    parts.push(Part::Singles(singles))?;
+    Ok(parts)
 }
 
 /// Whether no override replaces an occurrence, or it is that of an override.

@@ -90,10 +90,6 @@ pub(crate) fn give_back<'a>(
     ensures marks { StayMarks versions.entry.now (λ files display. AllByRecursion (λ l. IsPartOf files display l.feed) leads.entry.items)
         marks.old.items marks.new.items }
 {
-    // The first is that of the events that start once, of which nothing is kept.
-    if leads.len() < 2 {
-        return;
-    }
     for lead in leads {
         if let Some(placed) = lead.into_feed().end(versions, near, spans, marks, over) {
             put_at(kept, placed);

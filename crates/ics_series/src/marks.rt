@@ -18,7 +18,10 @@ pub(crate) fn add_places(marks: &mut Vec<Option<Mark>>, count: usize) -> Result<
 pub(crate) fn mark_at(marks: &[Option<Mark>], place: usize) -> Option<Mark>
     ensures { MatchOption result (Unit {0}) (λ m. slice_get marks.now place ≡ Some (Some m)) }
 {
-    *marks.get(place)?
+    match marks.get(place)? {
+        None => None,
+        Some(mark) => Some(*mark),
+    }
 }
 
 /// Puts a mark at a place, if there are both.

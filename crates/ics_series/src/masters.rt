@@ -26,7 +26,6 @@ ghost use Rattle.ics_series.specs.Sources.{IsFrom};
 ghost use Rattle.ics_listing.specs.FeedSources.Source.{Of};
 ghost use Rattle.ics_starts.specs.FileZones.{clocks_in, IsOwnEvent};
 ghost use Rattle.ics_series.specs.Inner.Spans.{AreMovedOn, AreSpans, IsMovedOn, IsStartedBy};
-ghost use Rattle.ics_series.specs.Spots.{event_at};
 ghost use Rattle.ics_series.specs.Versions.{seen, subject_cmp, AreChosen};
 ghost use Rattle.ics_series.specs.declared.part.Part.TheVariants as part;
 
@@ -92,12 +91,11 @@ pub(crate) fn push_series<'a>(
         if is_single(event) {
             continue;
         }
-        let mark = mark_at(marks, place);
         let begin = first_at(spans, place);
         if let Some(mut series) = series_at(
-            alloc, files, display, chosen, place, mark, kept, window, after, begin,
+            alloc, files, display, chosen, place, marks, kept, window, after, begin,
         )? {
-            let begun = series.mark();
+            put_mark(marks, place, series.mark());
             move_on(spans, place, floor, &mut series)?;
             let placed = PlacedSeries {
                 place,
@@ -105,7 +103,6 @@ pub(crate) fn push_series<'a>(
                 series,
             };
             parts.push(Part::Series(placed))?;
-            put_mark(marks, place, begun);
         }
     }
     Ok(())
@@ -200,7 +197,7 @@ fn series_at<'a>(
     display: &'a Display,
     chosen: &[Version<'_>],
     place: usize,
-    mark: Option<Mark>,
+    marks: &[Option<Mark>],
     kept: &mut Vec<Option<Box<Series<'a>>>>,
     window: Window,
     after: Option<&Key>,
@@ -208,8 +205,7 @@ fn series_at<'a>(
 ) -> Result<Option<Box<Series<'a>>>, AllocError>
     requires chosen { AreChosen (map said_by files.now) (display_clock display.now) chosen.now }
     requires within { place < length chosen.now }
-    requires mark { (version : Version) (event : Event) → slice_get chosen.now place ≡ Some version
-        → event_at (map said_by files.now) version.spot ≡ Some event → IsMarkOf event mark }
+    requires marks { AreMarks (map said_by files.now) (map seen chosen.now) marks.now }
     requires begin { (version : Version) → slice_get chosen.now place ≡ Some version → AreFrom (map said_by files.now) (display_clock display.now) window
         (option_map (λ key. key_rank key.now) after) (seen version) begin }
     requires kept { AreKept (map said_by files.now) (display_clock display.now) kept.old.items }
@@ -243,7 +239,8 @@ fn series_at<'a>(
         event,
         window,
         since.max(begin),
-        mark,
+        marks,
+        place,
         resting,
         keeps,
         replaced,
@@ -251,20 +248,21 @@ fn series_at<'a>(
     Ok(Some(held))
 }
 
-/// The series of an event: the one that rests, begun again, or a new one. What is found of its rule is kept if asked for.
+/// The series of an event, whose mark is at a place: the one that rests, begun again, or a new one. What is found of its rule is kept if asked for.
 fn series_of<'a>(
     alloc: Global,
     zones: FileZones<'a>,
     event: &'a Event,
     window: Window,
     since: Moment,
-    mark: Option<Mark>,
+    marks: &[Option<Mark>],
+    place: usize,
     resting: Option<Box<Series<'a>>>,
     keeps: bool,
     replaced: Replaced,
 ) -> Result<Box<Series<'a>>, AllocError>
     requires own { IsOwnEvent zones event.now }
-    requires mark { IsMarkOf event.now mark }
+    requires mark { (m : Mark) → slice_get marks.now place ≡ Some (Some m) → IsMarkOf event.now (Some m) }
     requires resting { IsSeriesOf event.now resting }
     ensures listing { IfOk result (λ series. IsListing entry_cmp
         (IsSeriesMet (clocks_in zones.entry) event.entry.now window since replaced.instants.items)
@@ -273,8 +271,12 @@ fn series_of<'a>(
     ensures begun { IfOk result (λ series. MatchOption series.value.rule_starts (Unit {0}) (λ s. IsBegun s.rule s.from s.cursor)) }
 {
     match resting {
-        None => new_series(alloc, zones, event, window, since, mark, keeps, replaced),
+        None => {
+            let mark = mark_at(marks, place);
+            new_series(alloc, zones, event, window, since, mark, keeps, replaced)
+        }
         Some(mut series) => {
+            let mark = mark_at(marks, place);
             series.again(alloc, zones, event, window, since, mark, replaced)?;
             Ok(series)
         }

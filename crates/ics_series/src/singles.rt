@@ -1,5 +1,5 @@
 //! The occurrences of the events of a folder that start once.
-ghost use Rattle.std.specs.Prelude.{◌≡◌, filter, length, map, IfOk, IsSome, ℤ, Option};
+ghost use Rattle.std.specs.Prelude.{◌≡◌, [], true, filter, length, map, IfOk, IsSome, ℤ, Option};
 ghost use Rattle.std.specs.List.{filter_map};
 ghost use Rattle.std.specs.List.Sorted.{IsSorted};
 ghost use Rattle.std.specs.Option.{option_map};
@@ -67,6 +67,13 @@ impl<'a> Singles<'a> {
         Ok(Singles {
             rest: singles.into_iter(),
         })
+    }
+
+    /// Whether none is still to come.
+    pub(crate) fn is_empty(&self) -> bool
+        ensures { result ≡ true → map single_entry (into_iter_items self.now.rest) ≡ [] }
+    {
+        self.rest.len() == 0
     }
 }
 

@@ -17,8 +17,9 @@ use Rattle.ics_days.specs.declared.span.Span.{Span}
 use Rattle.ics_series.specs.AgendaParts.{part_coming, part_sources}
 use Rattle.ics_listing.specs.Entry.{key_rank}
 use Rattle.ics_starts.specs.FileZones.{clocks_in}
-use Rattle.ics_series.specs.Inner.Marks.{AreMarks}
+use Rattle.ics_series.specs.Inner.Marks.{AreMarks, IsPut}
 use Rattle.ics_series.specs.Inner.Masters.{AreFrom, HasLists, HasSources}
+use Rattle.ics_starts.specs.RuleMarks.{IsMarkOf}
 use Rattle.ics_days.specs.NearPlaces.{AreSameBut}
 use Rattle.ics_days.specs.Spans.{first_at, is_out}
 use Rattle.ics_series.specs.Inner.Spans.{AreMovedOn, IsMovedOn}
@@ -28,7 +29,7 @@ use Rattle.ics_series.proofs.GapLemmas.{lists-gap, looked-all, looked-none, look
 use Rattle.ics_series.proofs.GapLemmas.{sources-gap, IsLookedTo}
 use Rattle.ics_listing.specs.FeedSources.{Recurring}
 use Rattle.std.specs.Option.{unwrap_or}
-use Rattle.ics_series.proofs.MarkLemmas.{first_source, mark-of, marks-put, own-mark}
+use Rattle.ics_series.proofs.MarkLemmas.{first_source, marks-put, own-mark}
 use Rattle.ics_series.proofs.OverrideLemmas.{any_version}
 use Rattle.ics_series.proofs.RecurringLemmas.{not-single}
 use Rattle.ics_starts.proofs.SameLemmas.{same-sources}
@@ -69,6 +70,30 @@ others-on c series moved = λ j away.
     let k = get_or near c.loop-place.place-index 0 in
     moved-others near k (get-in k near c.loop-place.place-index (slice_get-get_or near c.loop-place.place-index 0 c.loop-place-test.true)) moved j away
     ∙ c.loop-place.invariant.others j away
+
+-- the marks after that of a series was put
+marked-on : (c : In_ok-series) (held : Box Series) (mark : Option Mark) (marks : List (Option Mark)) → c.in_ok-series.field-0 ≡ Some held
+    → IsMarkOf held.value.event.now mark → IsPut c.loop-place.marks.items (get_or c.args.near.now c.loop-place.place-index 0) mark marks
+    → AreMarks (map said_by c.args.files.now) (map seen c.args.chosen.now) marks
+marked-on c held mark marks is of put =
+    let vs = c.args.chosen.now in
+    let k = get_or c.args.near.now c.loop-place.place-index 0 in
+    let v = get_or vs k any_version in
+    let there = slice_get-get_or vs k any_version (place-within c.requires.near c.loop-place.place-index c.loop-place-test.true) in
+    let files = map said_by c.args.files.now in
+    let m = MatchOption-at_some _ _ held is (c.in_ok-series.ensures.sources v there) in
+    marks-put files (map seen vs) k mark c.loop-place.marks.items marks c.loop-place.invariant.marks put
+    (own-mark files vs k there held.value mark m.1.stands m.2 of)
+
+pub returns-in_err-move_on-clause-marks : goal.returns-in_err-move_on-clause-marks
+returns-in_err-move_on-clause-marks c =
+    let marked = rw c.deref-in-Some.ensures at c.mark.ensures in
+    marked-on (goal.at.returns-in_err-move_on-clause-marks c).In_ok-series c.in-Some.series c.mark.result _ c.in-Some.is marked c.put_mark.ensures
+
+pub returns-in_err-push-clause-marks : goal.returns-in_err-push-clause-marks
+returns-in_err-push-clause-marks c =
+    let marked = rw c.deref-in-Some.ensures at c.mark.ensures in
+    marked-on (goal.at.returns-in_err-push-clause-marks c).In_ok-series c.in-Some.series c.mark.result _ c.in-Some.is marked c.put_mark.ensures
 
 pub returns-in_err-move_on-clause-spans : goal.returns-in_err-move_on-clause-spans
 returns-in_err-move_on-clause-spans c =
@@ -134,8 +159,8 @@ on-from c l =
     (place-within c.requires.near c.loop-place.place-index l)
 
 -- nothing of a series was read where its mark is taken
-pub mark-begun-requires : goal.mark-begun-requires
-mark-begun-requires c =
+pub mark-requires : goal.mark-requires
+mark-requires c =
     rw c.deref-in-Some.ensures (MatchOption-at_some _ _ c.in-Some.series c.in-Some.is c.in_ok-series.ensures.begun)
 
 pub loop-place-init : goal.loop-place-init
@@ -166,7 +191,7 @@ loop-place-preserved c =
       | in-Some+in_ok-move_on+in_ok-push w ↦
           let value = w.deref_mut.ensures.value in
           let moved = rw w.deref_mut.ensures.value at w.move_on.ensures.spans in
-          let marked = rw w.deref-in-Some.ensures at w.mark-begun.ensures in
+          let marked = rw w.deref-in-Some.ensures at w.mark.ensures in
           let m = MatchOption-at_some _ _ w.in-Some.series w.in-Some.is (c.in_ok-series.ensures.sources v there) in
           record {
             looked = (
@@ -189,8 +214,7 @@ loop-place-preserved c =
             others = subst (AreSameBut c.args.near.now c.args.spans.now.items) (sym (ap (λ (p : Vec Span Global). p.items) w.spans-is))
                 (others-on (goal.at.loop-place-preserved c).In_ok-series w.deref_mut.result.now w.move_on.ensures.spans);
             marks = subst (AreMarks files (map seen vs)) (sym (ap (λ (p : Vec (Option Mark) Global). p.items) w.marks-is))
-                (marks-put files (map seen vs) k w.mark-begun.result c.loop-place.marks.items _ c.loop-place.invariant.marks w.put_mark.ensures
-                (own-mark files vs k there w.in-Some.series.value w.mark-begun.result m.1.stands m.2 marked));
+                (marked-on (goal.at.loop-place-preserved c).In_ok-series w.in-Some.series w.mark.result _ w.in-Some.is marked w.put_mark.ensures);
             kept = c.in_ok-series.ensures.kept;
           }
       | in_default w ↦
@@ -262,12 +286,6 @@ loop-place-preserved-then-is_single c =
       marks = c.loop-place.invariant.marks;
       kept = c.loop-place.invariant.kept;
     }
-
-pub series_at-requires-clause-mark : goal.series_at-requires-clause-mark
-series_at-requires-clause-mark c =
-    mark-of (map said_by c.args.files.now) (map seen c.args.chosen.now) c.args.chosen.now refl (get_or c.args.near.now c.loop-place.place-index 0)
-    c.mark_at-mark.result c.loop-place.marks.items
-    c.loop-place.invariant.marks (rw c.deref-in-loop-place.ensures.value at c.mark_at-mark.ensures)
 
 pub returns : goal.returns
 returns c =

@@ -20,7 +20,7 @@ use Rattle.ics_starts.specs.Exclusions.{is_among}
 use Rattle.ics_listing.proofs.Cases.{some-same}
 use Rattle.ics_series.proofs.RecurringLemmas.{behind, come-since, own-subject, IsRead, not-single, series-listing}
 use Rattle.ics_series.proofs.SourceLemmas.{from-later, master-of}
-use Rattle.ics_series.proofs.MarkLemmas.{first_source}
+use Rattle.ics_series.proofs.MarkLemmas.{first_source, mark-of}
 use Rattle.ics_starts.proofs.ZoneLemmas.{own-event}
 use Rattle.ics_series.proofs.masters.series_at.Goals as goal
 
@@ -49,8 +49,9 @@ series_of-requires-clause-own c =
     (subst (λ zs. IsEventOf zs c.event-event.result.now) (sym c.zones-zones.ensures.zones) c.event-event.ensures.own)
 
 pub series_of-requires-clause-mark : goal.series_of-requires-clause-mark
-series_of-requires-clause-mark c =
-    c.requires.mark c.index-chosen-place.result c.event-event.result.now
+series_of-requires-clause-mark c m at =
+    mark-of (map said_by c.args.files.now) (map seen c.args.chosen.now) c.args.chosen.now refl c.args.place (Some m) c.args.marks.now c.requires.marks at
+    c.index-chosen-place.result c.event-event.result.now
     (slice_get_read c.args.chosen.now _ c.args.place c.index-chosen-place.result refl c.requires.within c.index-chosen-place.is)
     c.event-event.ensures.event
 
