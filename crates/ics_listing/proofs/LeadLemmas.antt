@@ -18,8 +18,9 @@ use Rattle.ics_listing.proofs.Cases.{eq-Equal, some-same, up-to-front}
 use Rattle.ics_listing.proofs.BeginsLemmas.{all_front, begins-at, cut-before, front-at, front-cases, not-after-front, uncut, AllFront, AllRise, before-union}
 use Rattle.ics_listing.proofs.BeginsLemmas.{before-all, in-cut, member-cut}
 use Rattle.ics_listing.specs.Rising.{IsBefore, Rises}
-use Rattle.ics_listing.specs.Inner.Tournament.{above, head_cmp, held_by, lead_cmp, must_draw, turn_cmp, turn_of, winner, AreSettled, AreSettledBut, Turn}
-use Rattle.ics_listing.proofs.TournamentLemmas.{settled_but, wins}
+use Rattle.ics_listing.specs.Inner.Tournament.{above, first_place, head_cmp, held_by, lead_cmp, must_draw, node_count, turn_cmp, turn_of, AreSettled}
+use Rattle.ics_listing.specs.Inner.Tournament.{AreSettledBut, Turn}
+use Rattle.ics_listing.proofs.TournamentLemmas.{goes-first-of, settled_but}
 use Rattle.ics_listing.specs.declared.occurrence.Occurrence.{Occurrence}
 use Rattle.std.specs.List.{flat_map, AllByRecursion}
 use Rattle.std.proofs.lemmas.List.Elements.{All-from_recursion, All-push, All-set, recursion_from_All}
@@ -205,13 +206,13 @@ module _ {X : Type 0} (unread : X → Option ℤ) (head : X → Option Occurrenc
       past-nothing last None (Some o) es a e = cc
       past-nothing last (Some from) o es a e = cc
 
-  module _ (xs : List X) (winners : List ℕ) (long : length winners ≡ length xs) (settled : AreSettled (turns_of unread head xs) winners) where
+  module _ (xs : List X) (winners : List ℕ) (counted : length winners ≡ node_count (length xs)) (settled : AreSettled (turns_of unread head xs) winners) where
     abbrev first : ℕ
-    first = winner winners 1
+    first = first_place winners
 
     -- no lead goes before the winner of all
     goes-first : (lead : ℕ) → lead < length xs → is_gt (lead_cmp (turns_of unread head xs) first lead) ≡ false
-    goes-first lead l = wins (turns_of unread head xs) winners settled lead (omega arith)
+    goes-first lead l = goes-first-of (turns_of unread head xs) winners settled (length xs) counted lead l
 
     up-to-first : {k : Option Turn} (i : ℕ) → get_or (turns_of unread head xs) first None ≡ k → i < length xs →
         is_gt (head_cmp k (get_or (turns_of unread head xs) i None)) ≡ false

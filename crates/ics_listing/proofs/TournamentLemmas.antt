@@ -9,11 +9,11 @@ use Rattle.std.specs.Ordering.{ordering_reverse, ordering_then}
 use Rattle.std.proofs.lemmas.Bool.{cases_cond, cases_eq, cases_lt}
 use Rattle.std.proofs.lemmas.Bool.Decides.{nat_tests}
 use Rattle.std.proofs.lemmas.Cmp.{back_total, int_cmp_total, nat_cmp_total, on_total, then_total, tied_itself, tied_back, upto}
-use Rattle.std.proofs.lemmas.List.{get_or-replicate, length-replicate}
+use Rattle.std.proofs.lemmas.List.{get_or_past, get_or-replicate, length-replicate}
 use Rattle.ics_listing.specs.Inner.EntryLaws.{entry_total}
 use Rattle.ics_listing.proofs.Cases.{here-or-later}
-use Rattle.ics_listing.specs.Inner.Tournament.{above, first_below, first_of, head_cmp, lead_cmp, turn_cmp, winner, AreSettled, AreSettledBut, AreSettledWhere}
-use Rattle.ics_listing.specs.Inner.Tournament.{Turn}
+use Rattle.ics_listing.specs.Inner.Tournament.{above, first_below, first_of, first_place, head_cmp, lead_cmp, node_count, turn_cmp, winner, AreSettled}
+use Rattle.ics_listing.specs.Inner.Tournament.{AreSettledBut, AreSettledWhere, Turn}
 
 turn_total : IsTotalOrder turn_cmp
 turn_total = then_total (on_total (λ t. t.start) int_cmp_total) (on_total (λ t. t.entry) (options_total entry_total))
@@ -63,6 +63,13 @@ winner-leaf winners node l = grind (arith, nat_tests)
 pub winner-lead : (winners : List ℕ) (lead : ℕ) → winner winners (length winners + lead) ≡ lead
 winner-lead winners lead = grind (arith, nat_tests)
 
+-- several leads have as many nodes, and one alone has none
+pub nodes-all : (n count : ℕ) → count ≡ node_count n → 1 < n → count ≡ n
+nodes-all n count e l = grind (arith, nat_tests)
+
+pub nodes-none : (n count : ℕ) → count ≡ node_count n → n < 2 → count ≡ 0
+nodes-none n count e l = grind (arith, nat_tests)
+
 -- a node is one of the two below the one above it
 two_below : (node : ℕ) → (node ≡ 2 * (node / 2)) ⊎ (node ≡ 2 * (node / 2) + 1)
 two_below node = ⊎_elim (λ l. inl (omega arith)) (λ l. inr (omega arith)) (cases_lt node (2 * (node / 2) + 1))
@@ -99,10 +106,23 @@ module _ (turns : List (Option Turn)) (winners : List ℕ) (settled : AreSettled
       (here-or-later 1 node (omega arith))
 
   -- no lead goes before the winner of all
-  pub wins : (lead : ℕ) → lead < length winners → is_gt (lead_cmp turns (winner winners 1) lead) ≡ false
+  wins : (lead : ℕ) → lead < length winners → is_gt (lead_cmp turns (winner winners 1) lead) ≡ false
   wins lead l =
       ap (λ k. is_gt (lead_cmp turns (winner winners 1) k)) (sym (winner-lead winners lead))
       ∙ over_all (length winners + lead) (length winners + lead) (omega arith) (omega arith) (omega arith)
+
+  pub goes-first-of : (n : ℕ) → length winners ≡ node_count n → (lead : ℕ) → lead < n → is_gt (lead_cmp turns (first_place winners) lead) ≡ false
+  goes-first-of n e lead l =
+      ⊎_elim
+      (λ more.
+      let full = nodes-all n (length winners) e more in
+      ap (λ k. is_gt (lead_cmp turns k lead)) (sym (winner-node winners 1 (omega (arith, full)))) ∙ wins lead (omega (arith, full)))
+      (λ one.
+      let none = nodes-none n (length winners) e (omega arith) in
+      let here : lead ≡ 0 = omega arith in
+      let first : first_place winners ≡ 0 = get_or_past winners 1 0 (omega (arith, none)) in
+      (λ i. is_gt (lead_cmp turns (first i) (here i))) ∙ ap is_gt (tied_itself (lead_total turns) 0))
+      (cases_lt 1 n)
 
   -- the winner at a node is that at one of the two below it
   from_below : (node : ℕ) → 0 < node → node < length winners → (winner winners node ≡ winner winners (2 * node))

@@ -7,14 +7,14 @@ ghost use Rattle.ics_listing.specs.Inner.EntryLaws.{entry_total};
 ghost use Rattle.ics_listing.specs.Leads.{listed, past, to_draw, AreNear, AreNear-prop, ComeAfter, ComeAfter-prop, HasNear, HasNear-prop};
 ghost use Rattle.ics_listing.specs.Merged.{merged};
 ghost use Rattle.ics_listing.specs.Inner.MergedLaws.{rises-merged};
-ghost use Rattle.ics_listing.specs.Inner.Tournament.{first_turn, held_by, is_unread, must_draw, turn_of, AreSettled};
+ghost use Rattle.ics_listing.specs.Inner.Tournament.{first_turn, held_by, is_unread, must_draw, node_count, turn_of, AreSettled};
 ghost use Rattle.ics_listing.specs.Uids.{AreSortedFrom, AreSortedFrom-prop, IsLastSorted, IsLastSorted-prop};
 
 use crate::feed::{Begins, Coming, Feed};
 use crate::holding::Holding;
 use crate::lead::Lead;
 use crate::occurrence::Occurrence;
-use crate::tournament::{order_by_place, replay, winner, winners};
+use crate::tournament::{first_place, order_by_place, replay, winners};
 use ics_values::Moment;
 use std::alloc::{AllocError, Global};
 use std::mem;
@@ -33,7 +33,7 @@ pub struct Merge<'a, F: Coming> {
     // From this place on the leads stand in the order of their UIDs, of which each has one. So long
     // UIDs are not read again for each occurrence.
     sorted_from: usize,
-    ghost same_length: { length winners.items ≡ length leads.items },
+    ghost counted: { length winners.items ≡ node_count (length leads.items) },
     ghost within: { All (λ lead. lead < length leads.items) winners.items },
     ghost settled: { AreSettled (map (λ l. turn_of l.unread l.head) leads.items) winners.items },
     ghost follows: { ComeAfter last (map (λ l. past last (listed l.head (F.coming l.feed))) leads.items) } by { ComeAfter-prop last
@@ -106,7 +106,7 @@ impl<'a, F: Feed<'a>> Feed<'a> for Merge<'a, F> {
         match self.first() {
             None => Ok(None),
             Some(first) => {
-                self.source = winner(&self.winners, 1);
+                self.source = first_place(&self.winners);
                 self.last = Some(first);
                 Ok(Some(first))
             }
@@ -136,7 +136,7 @@ impl<'a, F: Feed<'a>> Merge<'a, F> {
         ensures fewer { OnOk result (sum_by (λ l. to_draw l.unread (listed l.head (F.coming l.feed))) self.new.leads.items
             < sum_by (λ l. to_draw l.unread (listed l.head (F.coming l.feed))) self.old.leads.items) }
     {
-        let lead = winner(&self.winners, 1);
+        let lead = first_place(&self.winners);
         self.leads[lead].draw()?;
         replay(&self.leads, self.sorted_from, &mut self.winners, lead);
         Ok(())
@@ -148,7 +148,7 @@ impl<'a, F: Feed<'a>> Merge<'a, F> {
     {
         match (self.last, self.first()) {
             (Some(last), Some(first)) => {
-                let lead = winner(&self.winners, 1);
+                let lead = first_place(&self.winners);
                 let uids = order_by_place(self.sorted_from, self.source, lead);
                 Occurrence::compare(&last, &first, uids).is_eq()
             }
@@ -161,7 +161,7 @@ impl<'a, F: Feed<'a>> Merge<'a, F> {
     fn is_unread(&self) -> bool
         ensures { result ≡ is_unread (first_turn (map (λ l. turn_of l.unread l.head) self.now.leads.items) self.now.winners.items) }
     {
-        match self.leads.get(winner(&self.winners, 1)) {
+        match self.leads.get(first_place(&self.winners)) {
             None => false,
             Some(lead) => lead.unread.is_some(),
         }
@@ -171,7 +171,7 @@ impl<'a, F: Feed<'a>> Merge<'a, F> {
     fn first(&self) -> Option<Occurrence<'a>>
         ensures { option_map entry_of result ≡ held_by (first_turn (map (λ l. turn_of l.unread l.head) self.now.leads.items) self.now.winners.items) }
     {
-        self.leads.get(winner(&self.winners, 1))?.head
+        self.leads.get(first_place(&self.winners))?.head
     }
 }
 

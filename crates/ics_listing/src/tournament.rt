@@ -3,7 +3,8 @@ ghost use Rattle.std.specs.Prelude.{◌≡◌, ◌+◌, ◌<◌, All, IfOk, leng
 ghost use Rattle.std.specs.Option.{option_map};
 ghost use Rattle.std.specs.Ordering.{is_lt};
 ghost use Rattle.ics_listing.specs.Entry.{entry_of};
-ghost use Rattle.ics_listing.specs.Inner.Tournament.{above, first_below, head_cmp, lead_cmp, turn_of, winner, AreSettled, AreSettledBut, IsUnheld};
+ghost use Rattle.ics_listing.specs.Inner.Tournament.{above, first_below, first_place, head_cmp, lead_cmp, node_count, turn_of, winner, AreSettled};
+ghost use Rattle.ics_listing.specs.Inner.Tournament.{AreSettledBut, IsUnheld};
 ghost use Rattle.ics_listing.specs.Uids.{AreHeadsSorted, IsPlaceOrder};
 
 use crate::feed::Coming;
@@ -12,7 +13,7 @@ use crate::occurrence::Occurrence;
 use std::alloc::{AllocError, Global};
 use std::cmp::Ordering;
 
-/// For each node of a tournament of the leads, the first of those below it. From a place on the leads
+/// For each node of a tournament of the leads, the first of those below it. One lead alone needs no node. From a place on the leads
 /// stand in the order of the UIDs that they hold.
 pub(crate) fn winners<'a, F: Coming>(
     alloc: Global,
@@ -20,10 +21,13 @@ pub(crate) fn winners<'a, F: Coming>(
     sorted_from: usize,
 ) -> Result<Vec<usize>, AllocError>
     requires { AreHeadsSorted sorted_from (map (λ l. option_map entry_of l.head) leads.now) }
-    ensures length { IfOk result (λ winners. length winners.items ≡ length leads.now) }
+    ensures length { IfOk result (λ winners. length winners.items ≡ node_count (length leads.now)) }
     ensures leads { IfOk result (λ winners. All (λ lead. lead < length leads.now) winners.items) }
     ensures settled { IfOk result (λ winners. AreSettled (map (λ l. turn_of l.unread l.head) leads.now) winners.items) }
 {
+    if leads.len() < 2 {
+        return Ok(Vec::new(alloc));
+    }
     let mut winners = vec![in alloc; 0; leads.len()]?;
     for node in (1..leads.len()).rev() {
         winners[node] = first_below(leads, sorted_from, &winners, node);
@@ -40,21 +44,31 @@ pub(crate) fn replay<'a, F: Coming>(
 )
     requires sorted { AreHeadsSorted sorted_from (map (λ l. option_map entry_of l.head) leads.now) }
     requires lead { lead < length leads.now }
-    requires length { length winners.old ≡ length leads.now }
+    requires length { length winners.old ≡ node_count (length leads.now) }
     requires leads { All (λ lead. lead < length leads.now) winners.old }
-    requires settled { AreSettledBut (above 1 (length leads.now + lead)) (map (λ l. turn_of l.unread l.head) leads.now) winners.old }
+    requires settled { AreSettledBut (above 1 (length winners.old + lead)) (map (λ l. turn_of l.unread l.head) leads.now) winners.old }
     ensures leads { All (λ lead. lead < length leads.now) winners.new }
     ensures settled { AreSettled (map (λ l. turn_of l.unread l.head) leads.now) winners.new }
 {
-    let mut node = (leads.len() + lead) / 2;
+    let mut node = (winners.len() + lead) / 2;
     while node > 0 {
         winners[node] = first_below(leads, sorted_from, winners, node);
         node /= 2;
     }
 }
 
+/// The lead that has won at the first node or, where there are no nodes, the one that there is.
+pub(crate) fn first_place(winners: &[usize]) -> usize
+    ensures { result ≡ first_place winners.now }
+{
+    match winners.get(1) {
+        None => 0,
+        Some(lead) => *lead,
+    }
+}
+
 /// The lead that has won at a node.
-pub(crate) fn winner(winners: &[usize], node: usize) -> usize
+fn winner(winners: &[usize], node: usize) -> usize
     ensures { result ≡ winner winners.now node }
 {
     if node < winners.len() {

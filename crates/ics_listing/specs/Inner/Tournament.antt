@@ -45,9 +45,17 @@ IsUnheld _ _ = Unit {0}
 abbrev pub winner : List ℕ → ℕ → ℕ
 winner winners node = if nat_lt node (length winners) then slice_index winners node else node - length winners
 
+-- how many nodes a tournament of so many leads has, one of which is not used: one lead alone needs none
+abbrev pub node_count : ℕ → ℕ
+node_count n = if nat_lt 1 n then n else 0
+
+-- the lead that has won at the first node or, where there are no nodes, the first
+abbrev pub first_place : List ℕ → ℕ
+first_place winners = slice_index_or winners 1 0
+
 -- the turn of the first of all leads
 abbrev pub first_turn : List (Option Turn) → List ℕ → Option Turn
-first_turn turns winners = slice_index_or turns (winner winners 1) None
+first_turn turns winners = slice_index_or turns (first_place winners) None
 
 -- what is held by it
 abbrev pub held_by : Option Turn → Option Entry

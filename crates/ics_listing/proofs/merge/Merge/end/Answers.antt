@@ -1,6 +1,7 @@
 use Rattle.std.proofs.Common.{◌∙◌, None, map, ap, length, sym, subst, arith}
 use Rattle.std.specs.List.{AllByRecursion}
 use Rattle.std.proofs.lemmas.List.{length-map}
+use Rattle.ics_listing.specs.Inner.Tournament.{node_count}
 use Rattle.ics_listing.specs.Leads.{listed, past, AreNear}
 use Rattle.ics_listing.proofs.UidOrderLemmas.{none-sorted}
 use Rattle.ics_listing.proofs.merge.Merge.end.Goals as goal
@@ -11,7 +12,7 @@ invariant_of-self g c =
     let leads = ap length none in
     let winners = ap length c.clear.ensures.items in
     record {
-      same_length = omega (arith, leads, winners);
+      counted = winners ∙ sym (ap node_count leads);
       within = λ k d l. absurd (omega (arith, l, winners));
       settled = λ node p l. absurd (omega (arith, l, winners));
       follows = tt;

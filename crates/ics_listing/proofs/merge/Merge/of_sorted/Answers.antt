@@ -8,7 +8,7 @@ use Rattle.ics_listing.specs.Entry.{entry_cmp, entry_of}
 use Rattle.ics_listing.specs.Leads.{listed, AreNear}
 use Rattle.ics_listing.specs.Listing.{IsIn}
 use Rattle.ics_listing.specs.Merged.{merged}
-use Rattle.ics_listing.specs.Inner.Tournament.{turn_of, AreSettled}
+use Rattle.ics_listing.specs.Inner.Tournament.{node_count, turn_of, AreSettled}
 use Rattle.ics_listing.specs.Uids.{AreHeadsSorted, AreSortedFrom}
 use Rattle.ics_listing.proofs.LeadLemmas.{all-pushed}
 use Rattle.ics_listing.proofs.UidOrderLemmas.{heads-sorted}
@@ -40,7 +40,7 @@ invariant_of-result g c =
     c.in-None.is c.next.ensures.steps).0 in
     let made = c.in_ok-winners.ensures in
     record {
-      same_length = made.length ∙ ap length lent;
+      counted = made.length ∙ ap (λ leads. node_count (length leads)) lent;
       within = subst (λ leads. All (λ lead. lead < length leads) c.in_ok-winners.winners.items) lent made.leads;
       settled = subst (λ leads. AreSettled (map (λ x. turn_of x.unread x.head) leads) c.in_ok-winners.winners.items) lent made.settled;
       follows = tt;
