@@ -80,7 +80,7 @@ const SHORT_PART: i64 = 90;
 const LOOKED_AT: usize = 32_000_000;
 
 /// A zone that has more observances has its onsets listed, so that spans are made without a look at each observance for each span.
-const FEW: usize = 64;
+const FEW: usize = 96;
 
 /// How many onsets a zone lists for each of its observances, but not more than `LISTED`.
 const LISTED_OF_EACH: usize = 640;
