@@ -147,8 +147,7 @@ pub record IsCountedStep (q : EffectiveRule) (start number target place chosen :
 -- counts stay small
 small_total : (q : EffectiveRule) (start : ℕ) {counted first number : ℕ}
     → counted ≡ count (first_local q.frequency (monday_zero q.week_start) first) (is_chosen q start) → first ≤ number
-    → is_stepped (period_in q start) q.interval number ≡ true → first_local q.frequency (monday_zero q.week_start) number ≤ rules_end
-    → counted ≤ rules_end
+    → is_stepped (period_in q start) q.interval number ≡ true → first_local q.frequency (monday_zero q.week_start) number ≤ rules_end → counted ≤ rules_end
 small_total q start total l step h = grind (arith, count_most, first_mono, step_low)
 
 pub counted_small : {q : EffectiveRule} {start c counted limit quiet_to : ℕ} {o : RecurrencePeriod} (number : ℕ)

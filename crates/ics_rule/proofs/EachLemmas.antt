@@ -117,8 +117,7 @@ module _ (q : EffectiveRule) (start : ℕ) (fine : 0 < seconds_of q.frequency) (
 
   -- from one period to another
   pub total_between : {begin target counted each : ℕ} (number : ℕ) → each ≡ chosen_in_open q → number + count begin is_open ≡ count target is_open
-      → target * u ≤ calendar_end → begin ≤ target
-      → counted ≡ chosen_to q start begin → counted + each * number ≡ chosen_to q start target
+      → target * u ≤ calendar_end → begin ≤ target → counted ≡ chosen_to q start begin → counted + each * number ≡ chosen_to q start target
   total_between number ee en top up ec = grind (arith, mul-le-mul_right, mul_comm, total_open)
 
 -- of the frequencies whose periods are a day or less the day is the one that is no part of a day

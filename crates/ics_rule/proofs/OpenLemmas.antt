@@ -1,6 +1,5 @@
 -- The periods that a rule lets in, counted step by step and by whole days.
-use Rattle.std.proofs.Common.{◌≡◌, ℕ, ◌+◌, ◌-◌, ◌*◌, ◌/◌, ◌%◌, ◌<◌, ◌≤◌, Bool, true, false, ◌&&◌, nat_le, nat_lt, min, refl}
-use Rattle.std.proofs.Common.{sym, ap, ◌∙◌, arith}
+use Rattle.std.proofs.Common.{◌≡◌, ℕ, ◌+◌, ◌-◌, ◌*◌, ◌/◌, ◌%◌, ◌<◌, ◌≤◌, Bool, true, false, ◌&&◌, nat_le, nat_lt, min, refl, sym, ap, ◌∙◌, arith}
 use Rattle.std.proofs.lemmas.Bool.Decides.{nat_tests}
 use Rattle.std.proofs.lemmas.Nat.{div-add-mod', le-div, div_below}
 use Rattle.std.proofs.Math.Nat.{add-mul, mod-lt, mul_comm, mul_assoc, mul-le-mul_right}
@@ -37,8 +36,7 @@ day_some f = grind arith
 
 -- the periods let in on the days, from one on, with places before another, in runs of so many days
 abbrev pub placed : EffectiveRule → ℕ → ℕ → ℕ → ℕ → ℕ → Bool
-placed q first i from j p =
-    (nat_le from (p / per_day q.frequency) && nat_lt ((p / per_day q.frequency - from) % i) j) && is_open_period q first p
+placed q first i from j p = (nat_le from (p / per_day q.frequency) && nat_lt ((p / per_day q.frequency - from) % i) j) && is_open_period q first p
 
 -- whole days, from one on and before another, of a rule that begins earlier
 pub record IsDayRun (q : EffectiveRule) (first from before : ℕ) : Type 0 where
@@ -100,8 +98,7 @@ module _ {q : EffectiveRule} {first from before : ℕ} (run : IsDayRun q first f
         in_order s a b c h = grind arith
 
     pub placed_more : {total days unit : ℕ} (steps : ℕ) → total ≡ count (before * d) (placed q first q.interval from j) → days ≡ count before on_day
-        → unit ≡ seconds_of q.frequency
-        → steps + count ((from + j) * (86_400 / unit)) timely ≡ count ((from + j + 1) * (86_400 / unit)) timely
+        → unit ≡ seconds_of q.frequency → steps + count ((from + j) * (86_400 / unit)) timely ≡ count ((from + j + 1) * (86_400 / unit)) timely
         → total + days * steps ≡ count (before * d) (placed q first q.interval from (j + 1))
     placed_more steps et ed eu es =
         let own = rw (eu, (day_seconds q.frequency run.fine run.unit).1) at es in

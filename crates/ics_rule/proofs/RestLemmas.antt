@@ -10,7 +10,7 @@ use Rattle.ics_rule.specs.Inner.Rounds.{seconds_of}
 use Rattle.ics_rule.specs.Inner.OpenPeriods.{per_day, lets_own, is_timely, is_timely_on, timely_on, is_open_period}
 use Rattle.ics_period.proofs.Counts.{count-same, count-add, count_most}
 use Rattle.ics_period.proofs.CycleLemmas.{date_by_place, date_of_round}
-use Rattle.ics_period.proofs.IntervalLemmas.{steps_among}
+use Rattle.ics_period.proofs.IntervalLemmas.{none_between, steps_among}
 use Rattle.ics_period.proofs.RankLemmas.{count_flat}
 use Rattle.ics_rule.proofs.OpenLemmas.{IsDayRun, day_some, step_later, placed, placed_next}
 
@@ -77,6 +77,25 @@ module _ (q : EffectiveRule) (first : ℕ) where
           → total + count (from * d) (is_timely_on q first days) ≡ count (min (day + off) before * d) (is_timely_on q first days)
       days_passed off none =
           passed_here ∙ sym (days_none {from = day} {before = min (day + off) before} (omega (arith, inside)) (λ e l u. none e l (omega (arith, u))))
+
+  -- days that follow one by whole rounds
+  pub round_added : (from total : ℕ) {before day new : ℕ} → day < before → is_stepped from 146_097 day ≡ true
+      → total + count (from * d) (is_timely_on q first (is_stepped from 146_097)) ≡ count (min day before * d) (is_timely_on q first (is_stepped from 146_097))
+      → new ≡ total + timely_on q first day → new + count (from * d) (is_timely_on q first (is_stepped from 146_097))
+      ≡ count (min (day + 146_097) before * d) (is_timely_on q first (is_stepped from 146_097))
+  round_added from total {before = before} {day = day} inside on passed e =
+      day_added (is_stepped from 146_097) from before day total inside passed on e
+      ∙ sym (days_none (is_stepped from 146_097) {from = min (day + 1) before} {before = min (day + 146_097) before} (omega arith)
+      (λ x l u. none_between 146_097 (omega arith) from day x on (omega (arith, l, u)) (omega (arith, u))))
+
+  pub rounds_done : (from : ℕ) {before day total : ℕ} → before ≤ day
+      → total + count (from * d) (is_timely_on q first (is_stepped from 146_097)) ≡ count (min day before * d) (is_timely_on q first (is_stepped from 146_097))
+      → total ≡ count (before * d) (is_timely_on q first (is_stepped from 146_097))
+  rounds_done from {before = before} {day = day} all passed =
+      let flat = days_none (is_stepped from 146_097) {from = 0} {before = from} (omega arith) (λ e l u. grind (arith, nat_tests)) in
+      let none = count_most (0 * d) (is_timely_on q first (is_stepped from 146_097)) in
+      let here : min day before ≡ before = omega (arith, all) in
+      let sum = rw here at passed in omega (arith, flat, none, sum)
 
   -- as many days later as the interval has, a day has as many steps
   pub rest_same : (from day : ℕ) → 0 < seconds_of q.frequency → seconds_of q.frequency ≤ 86_400 → 1 ≤ q.interval → first < from * d → from ≤ day

@@ -175,14 +175,11 @@ fn open_of_days(search: &Search<'_>, from: u64, before: u64) -> u64
         ≡ count (before * per_day search.now.parts.now.frequency) (is_open_period search.now.parts.now search.now.first) }
 {
     let end = before as u32;
-    if lets_all_times(search.parts) {
-        if goes_by_rounds(search, before - from) {
-            return open_of_rounds(search, from, before);
-        }
-    } else if next_open_day(search.parts, from as u32, end, true) >= end {
-        return 0;
-    }
-    if lets_few(search, from) {
+    if !lets_all_times(search.parts) && next_open_day(search.parts, from as u32, end, true) >= end {
+        0
+    } else if goes_by_rounds(search, from, before) {
+        open_of_rounds(search, from, before)
+    } else if lets_few(search, from, before) {
         open_of_each(search, from, before)
     } else {
         open_of_rests(search, from, before)

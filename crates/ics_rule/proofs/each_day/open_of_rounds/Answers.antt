@@ -1,6 +1,5 @@
 use Rattle.std.proofs.Common.{◌≡◌, ◌∙◌, ◌+◌, ◌-◌, ◌*◌, arith}
 use Rattle.std.proofs.lemmas.Nat.{mul-le}
-use Rattle.std.proofs.Math.Nat.{mul-le-mul_right}
 use Rattle.ics_rule.specs.Inner.OpenPeriods.{per_day}
 use Rattle.ics_period.proofs.Counts.{count_most}
 use Rattle.ics_rule.proofs.OpenLemmas.{IsDayRun, day_some, placed, placed_none, placed_all}
@@ -19,16 +18,12 @@ loop-day-init c =
       near = c.new-near.ensures c.args.search.now.parts.now;
     }
 
-pub steps_in_rounds-requires-clause-first : goal.steps_in_rounds-requires-clause-first
-steps_in_rounds-requires-clause-first c =
-    let low = mul-le-mul_right (per_day c.args.search.now.parts.now.frequency) c.loop-day.invariant.low in omega (arith, low, c.requires.first)
-
 pub overflow_add-total : goal.overflow_add-total
 overflow_add-total c =
     let q = c.args.search.now.parts.now in
     let sum = rounds_more (run (goal.at.overflow_add-total c).After-min-end) c.loop-day.invariant.low
     (omega (arith, c.loop-day-test.true, c.min-end.ensures)) (c.days_out_near-off.ensures.some c.if-off-eq0.true) c.loop-day.invariant.placed
-    c.steps_in_rounds.ensures in
+    c.steps_of_rounds.ensures in
     let most = count_most (c.args.before * per_day q.frequency) (placed q c.args.search.now.first 146_097 c.args.from (c.loop-day.day + 1 - c.args.from)) in
     let high = mul-le c.args.before (per_day q.frequency) 3_579_743 86_400 c.requires.before (day_some q.frequency).1 in
     omega (arith, sum, most, high)
@@ -42,7 +37,7 @@ loop-day-preserved c =
           let next : c.max.result ≡ 1 = omega (arith, c.max.ensures, w.if-off-eq0.true) in record {
             low = omega (arith, walk.low);
             placed = rw next (w.total-is ∙ rounds_more run walk.low (omega (arith, c.loop-day-test.true, c.min-end.ensures))
-                (c.days_out_near-off.ensures.some w.if-off-eq0.true) walk.placed w.steps_in_rounds.ensures);
+                (c.days_out_near-off.ensures.some w.if-off-eq0.true) walk.placed w.steps_of_rounds.ensures);
             near = c.turn_to.ensures.near;
           }
       | else-off-eq0 w ↦

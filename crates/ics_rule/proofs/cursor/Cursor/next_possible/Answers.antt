@@ -70,5 +70,4 @@ returns-then-is_ahead-clause-none c =
     (rw same at c.quiet_from-then-is_ahead.ensures.none)
 
 pub returns-else-is_ahead-clause-none : goal.returns-else-is_ahead-clause-none
-returns-else-is_ahead-clause-none c =
-    rw (unmoved (goal.at.returns-else-is_ahead-clause-none c).After-is_ahead) at c.next_by_parts.ensures.none
+returns-else-is_ahead-clause-none c = rw (unmoved (goal.at.returns-else-is_ahead-clause-none c).After-is_ahead) at c.next_by_parts.ensures.none
