@@ -38,7 +38,7 @@ use ics_days::{Span, first_at};
 use ics_event::Event;
 use ics_file::FileEvents;
 use ics_listing::{Coming, Key, Window};
-use ics_starts::{FileZones, KeptLocals, Mark, Replaced, Series, is_single};
+use ics_starts::{FileZones, Mark, Replaced, Series, is_single};
 use ics_values::Moment;
 use ics_zone::Display;
 use std::alloc::{AllocError, Global};
@@ -303,12 +303,7 @@ fn new_series<'a>(
     ensures sources { IfOk result (λ series. series_sources series.value ≡ source_of (clocks_in zones.entry) event.entry.now window since) }
     ensures begun { IfOk result (λ series. MatchOption series.value.rule_starts (Unit {0}) (λ s. IsBegun s.rule s.from s.cursor)) }
 {
-    let kept = if keeps {
-        KeptLocals::new(alloc, event)
-    } else {
-        None
-    };
-    let series = Series::new(alloc, zones, event, window, since, mark, kept, replaced)?;
+    let series = Series::new(alloc, zones, event, window, since, mark, keeps, replaced)?;
     let held = Box::new(alloc, series)?;
     Ok(held)
 }

@@ -24,7 +24,6 @@ mod starts;
 mod zones;
 
 pub use instants::instant;
-pub use kept_locals::KeptLocals;
 pub use laws::{each_start, most_in_days, none_excluded, one_start, raw_counted, starts_by_until};
 pub use mark::{Mark, Quiet};
 pub use replaced::Replaced;

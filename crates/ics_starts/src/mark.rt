@@ -1,12 +1,14 @@
 //! Where the search of a rule began, so that a later search need not count again under COUNT.
 ghost use Rattle.std.specs.Prelude.{◌≡◌, ◌≤◌, ◌==◌, ◌&&◌, int_lt, nat_le, true, MatchOption, Some};
 ghost use Rattle.std.specs.Int.{int_min};
+ghost use Rattle.std.specs.Option.{is_some};
 ghost use Rattle.ics_fields.specs.Days.{IsDayNumber};
 ghost use Rattle.ics_fields.specs.Locals.{number};
 ghost use Rattle.ics_period.specs.PeriodNumbers.{rules_end};
 ghost use Rattle.ics_starts.specs.RuleMarks.{IsBegun, IsCountMark};
 ghost use Rattle.ics_starts.specs.RuleStarts.{midnight_number, HasLookedTo};
 
+use ics_fields::EPOCH_DAY;
 use ics_rule::{Cursor, Rule};
 use ics_values::{Local, Moment};
 
@@ -53,6 +55,30 @@ pub(crate) fn counted(counts: bool, mark: Option<Mark>) -> Option<Mark>
     ensures { MatchOption result (Unit {0}) (λ m. (mark ≡ Some m) × (counts ≡ true)) }
 {
     if counts { mark } else { None }
+}
+
+/// The day number of 0000-01-01.
+const FIRST_DAY: i32 = -EPOCH_DAY;
+
+/// The mark or, if there is none and what is before a local is to be counted at once, one at the midnight before the local's day. A search at the
+/// local that goes on from there has counted what is before it, and so has each that goes on from the mark of that search.
+pub(crate) fn begun_before(
+    rule: &Rule,
+    at_once: bool,
+    from: Local,
+    mark: Option<Mark>,
+) -> Option<Mark>
+    requires from { IsDayNumber from.day }
+    requires counts { at_once ≡ true → is_some rule.now.parts.count ≡ true }
+    requires mark { MatchOption mark (Unit {0}) (IsCountMark rule.now) }
+    ensures { MatchOption result (Unit {0}) (IsCountMark rule.now) }
+{
+    if mark.is_some() || !at_once || from.day <= FIRST_DAY {
+        return mark;
+    }
+    let from = Local::at(from.day - 1, 0);
+    let cursor = Cursor::at(rule, from);
+    Some(Mark { from, cursor })
 }
 
 /// The cursor of a rule at a local, where its search up to the midnight of day `end` begins. It goes on

@@ -41,7 +41,7 @@ use crate::kept_locals::KeptLocals;
 use crate::kind::kind_of;
 use crate::lasting::lasting_by;
 use crate::listed::{counts_from, listed_again, push_listed, running};
-use crate::mark::{Mark, Quiet, counted};
+use crate::mark::{Mark, Quiet, begun_before, counted};
 use crate::occurrence::met_by;
 use crate::replaced::Replaced;
 use crate::rule_starts::RuleStarts;
@@ -218,7 +218,7 @@ fn starts_by_rule<'a>(
     met: Moment,
     listed: &[Start],
     mark: Option<Mark>,
-    kept: Option<Box<KeptLocals<'a>>>,
+    keeps: bool,
 ) -> Result<Option<RuleStarts<'a>>, AllocError>
     requires event { IsOwnEvent zones event.now }
     requires met { met ≡ first_met (clocks_in zones) window event.now }
@@ -226,7 +226,6 @@ fn starts_by_rule<'a>(
     requires early { met ≤ℤ window.from }
     requires listed { All (IsStartIn zones) listed.now }
     requires mark { IsMarkOf event.now mark }
-    requires kept { IsKeptOf event.now kept }
     ensures own { IfOk result (HasOwnRule zones.entry event.entry.now window
         (first_asked (clocks_in zones.entry) window event.entry.now since listed.entry.now)) }
     ensures from { IfOk result (λ given. MatchOption given (event.entry.now.rule ≡ None)
@@ -237,9 +236,16 @@ fn starts_by_rule<'a>(
         return Ok(None);
     };
     let parts = value.parts();
+    let kept = if keeps {
+        KeptLocals::new(alloc, event)
+    } else {
+        None
+    };
     let rule = rule_of(alloc, event, parts, &kept)?;
     let from = begin_of_rule(zones, event, &window, since, met, listed);
-    let mark = counted(is_counted(event), mark);
+    let counts = is_counted(event);
+    let mark = counted(counts, mark);
+    let mark = begun_before(rule.get(), counts && keeps, from, mark);
     Ok(Some(RuleStarts::new(alloc, zones, event, window, rule, from, mark, kept)))
 }
 
@@ -409,7 +415,8 @@ impl<'a> Series<'a> {
     ghost use Rattle.ics_starts.specs.SeriesStarts.{wanted_by, IsSeriesMet};
 
     /// The occurrences of an event of the file that meet the window and begin at the instant `since` or later, but for those that others replace.
-    /// Under COUNT the rule is searched from the mark on, which a series of the same event has given.
+    /// Under COUNT the rule is searched from the mark on, which a series of the same event has given. Of a series that rests from day to day (`keeps`)
+    /// what is found of the rule may be kept, and under COUNT what is before its search is counted at once, so that its mark knows it.
     pub fn new(
         alloc: Global,
         zones: FileZones<'a>,
@@ -417,12 +424,11 @@ impl<'a> Series<'a> {
         window: Window,
         since: Moment,
         mark: Option<Mark>,
-        kept: Option<Box<KeptLocals<'a>>>,
+        keeps: bool,
         replaced: Replaced,
     ) -> Result<Series<'a>, AllocError>
         requires own { IsOwnEvent zones event.now }
         requires mark { IsMarkOf event.now mark }
-        requires kept { IsKeptOf event.now kept }
         ensures listing { IfOk result (λ series. IsListing entry_cmp
             (IsSeriesMet (clocks_in zones.entry) event.entry.now window since replaced.instants.items)
             (⟦<Series<'a> as Coming>⟧.coming series)) }
@@ -436,7 +442,7 @@ impl<'a> Series<'a> {
         let listed = listed_apart(alloc, zones, &mut known, event, &window, from, &running)?;
         let exclusions = Exclusions::new(alloc, zones, &mut known, event, &window, from, running)?;
         let rule_starts = starts_by_rule(
-            alloc, zones, event, window, since, met, &listed, mark, kept,
+            alloc, zones, event, window, since, met, &listed, mark, keeps,
         )?;
         Ok(Series {
             zones,

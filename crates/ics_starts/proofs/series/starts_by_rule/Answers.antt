@@ -6,12 +6,6 @@ use Rattle.ics_starts.specs.SeriesStarts.{first_asked}
 use Rattle.ics_starts.proofs.BeginLemmas.{marked, own-begin}
 use Rattle.ics_starts.proofs.series.starts_by_rule.Goals as goal
 
-pub new-requires-clause-mark : goal.new-requires-clause-mark
-new-requires-clause-mark c =
-    let has = c.in_ok-rule.ensures in
-    marked c.args.event.now c.args.mark c.counted-mark.result has c.requires.mark (sym (c.is_counted.ensures c.in_ok-rule.rule has))
-    c.counted-mark.ensures
-
 pub returns : goal.returns
 returns c =
     let fits : SFits w64 c.args.since = c.ranges.since in
