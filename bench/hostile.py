@@ -501,9 +501,13 @@ ROWS = [
     ('43 rules of one in all days of a year since 0001, under COUNT, a day of 9700',
      lambda: rules(43, 'FREQ=YEARLY;BYMONTHDAY=%s;BYDAY=%s;BYSETPOS=10;COUNT=4294967295' % (listed(range(1, 32)), WEEK)), ['9700-07-01', '1d'], 8, 32),
     ('73 rules of each 65,015th second in seven months, under COUNT, a day of 9700',
-     lambda: rules(73, 'FREQ=SECONDLY;INTERVAL=65015;BYMONTH=1,3,5,7,8,10,12;COUNT=4294967295'), ['9700-07-01', '1d'], 20, 32),
+     lambda: rules(73, 'FREQ=SECONDLY;INTERVAL=65015;BYMONTH=1,3,5,7,8,10,12;COUNT=4294967295'), ['9700-07-01', '1d'], 8, 32),
     ('89 rules of each 25th hour in February, under COUNT, each day of a month of 9700',
-     lambda: rules(89, 'FREQ=HOURLY;INTERVAL=25;BYMONTH=2;COUNT=4294967295'), ['9700-01-01', '30d', '--every-day', '--notstarted'], 20, 32),
+     lambda: rules(89, 'FREQ=HOURLY;INTERVAL=25;BYMONTH=2;COUNT=4294967295'), ['9700-01-01', '30d', '--every-day', '--notstarted'], 4, 32),
+    ('8 rules of each 22,284th second at an hour of the day, under COUNT, a day of 9700',
+     lambda: rules(8, 'FREQ=SECONDLY;INTERVAL=22284;BYHOUR=19;COUNT=4294967295'), ['9700-07-01', '1d'], 4, 32),
+    ('53 rules of each 16,975th second at an hour of two weekdays, under COUNT, a day of 9700',
+     lambda: rules(53, 'FREQ=SECONDLY;INTERVAL=16975;BYMONTH=1,2,3,4,5,6,7,8,10,11,12;BYDAY=MO,TU;BYHOUR=7;COUNT=4294967295'), ['9700-07-01', '1d'], 8, 32),
     ('400,000 faulty events, --keep-going', lambda: faulty(400_000), [*DAY, '--keep-going'], 12, 256),
 ]
 
