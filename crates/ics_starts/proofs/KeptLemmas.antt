@@ -4,7 +4,7 @@ use Rattle.std.proofs.Common.{◌≡◌, ◌∙◌, Option, Some, None, MatchOpt
 use Rattle.ics_event.specs.declared.event.Event.{Event}
 use Rattle.ics_period.specs.Recurrence.{Recurrence}
 use Rattle.ics_listing.proofs.Cases.{some-same}
-use Rattle.ics_starts.specs.KeptLocals.{IsKeptOf}
+use Rattle.ics_starts.specs.Inner.KeptLocals.{IsKeptOf}
 use Rattle.ics_starts.specs.Starts.{recurrence_of}
 use Rattle.ics_starts.specs.declared.kept_locals.KeptLocals.{KeptLocals}
 

@@ -2,3 +2,4 @@
 pub mod ClockStretches
 pub mod Finds
 pub mod KeptFinds
+pub mod KeptLocals

@@ -20,6 +20,5 @@ pub mod Starts
 pub mod FileZones
 pub mod RuleMarks
 pub mod Inner
-pub mod KeptLocals
 pub mod Quiet
 pub mod RuleStartLaws

@@ -11,7 +11,7 @@ ghost use Rattle.ics_listing.specs.StartOrder.{moment_cmp};
 ghost use Rattle.ics_listing.specs.FileClocks.{Clock, Clocks};
 ghost use Rattle.ics_starts.specs.Found.{start_at};
 ghost use Rattle.ics_starts.specs.RuleMarks.{IsBegun};
-ghost use Rattle.ics_starts.specs.KeptLocals.{kept-of-prop, IsKeptOf};
+ghost use Rattle.ics_starts.specs.Inner.KeptLocals.{kept-of-prop, IsKeptOf};
 ghost use Rattle.ics_starts.specs.Quiet.{beyond-prop, AreBeyond};
 ghost use Rattle.ics_listing.specs.Rising.{Rises, Rises-prop};
 ghost use Rattle.ics_starts.specs.Clocks.{clock_of, instant, AreSpansOf, IsBounded, IsStretched};

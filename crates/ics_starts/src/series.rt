@@ -17,7 +17,7 @@ ghost use Rattle.ics_starts.specs.Finish.{AreLasting};
 ghost use Rattle.ics_starts.specs.Found.{counts_from, first_met, AreRunning, IsStartIn};
 ghost use Rattle.ics_listing.specs.FileClocks.{Clock};
 ghost use Rattle.ics_listing.specs.Listing.{IsIn};
-ghost use Rattle.ics_starts.specs.KeptLocals.{IsKeptOf};
+ghost use Rattle.ics_starts.specs.Inner.KeptLocals.{IsKeptOf};
 ghost use Rattle.ics_starts.specs.RuleMarks.{IsBegun, IsCountMark, IsMarkOf};
 ghost use Rattle.ics_starts.specs.Quiet.{AreQuiet};
 ghost use Rattle.ics_listing.specs.Merged.{cut};

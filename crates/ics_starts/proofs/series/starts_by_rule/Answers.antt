@@ -1,9 +1,9 @@
-use Rattle.std.proofs.Common.{◌≡◌, ap, sym, arith, Bor, SFits, w64, to_z, of_z}
+use Rattle.std.proofs.Common.{◌≡◌, ap, arith, Bor, SFits, w64, to_z, of_z}
 use Rattle.std.proofs.lemmas.Int.{ints}
 use Rattle.ics_event.specs.declared.event.Event.{Event}
 use Rattle.ics_starts.specs.FileZones.{clocks_in}
 use Rattle.ics_starts.specs.SeriesStarts.{first_asked}
-use Rattle.ics_starts.proofs.BeginLemmas.{marked, own-begin}
+use Rattle.ics_starts.proofs.BeginLemmas.{own-begin}
 use Rattle.ics_starts.proofs.series.starts_by_rule.Goals as goal
 
 pub returns : goal.returns

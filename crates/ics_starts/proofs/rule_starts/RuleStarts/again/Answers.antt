@@ -18,7 +18,7 @@ use Rattle.ics_listing.specs.StartTimes.{local_of}
 use Rattle.ics_listing.proofs.StartOrderLemmas.{calendar-day, own-day}
 use Rattle.ics_starts.proofs.StartSourceLemmas.{rule-first}
 use Rattle.ics_starts.specs.FileZones.{clocks_in, IsTimeOf}
-use Rattle.ics_starts.specs.KeptLocals.{IsKeptOf}
+use Rattle.ics_starts.specs.Inner.KeptLocals.{IsKeptOf}
 use Rattle.ics_starts.specs.Quiet.{AreBeyond}
 use Rattle.ics_starts.specs.Starts.{recurrence_of}
 use Rattle.ics_starts.proofs.QuietLemmas.{beyond-begun}
