@@ -164,23 +164,69 @@ fn note_through_each(file: &mut FileEvents, window: &Window, every_day: bool) ->
 {
     let mut any = false;
     for k in 0..file.events.len() {
-        let Some(index) = file.events[k].start.zone else {
-            continue;
-        };
-        let (from, to) = asked_through(&file.events[k], window, every_day);
-        if from >= to {
-            continue;
-        }
-        let often = asks_often(&file.events[k]);
-        if let Some(zone) = file.zones.get_mut(index as usize) {
-            zone.note_through(from, to);
-            if often {
-                zone.note_often(from, to);
-            }
-            any = true;
-        }
+        let event = &file.events[k];
+        let place = place_of(event.start).unwrap_or(usize::MAX);
+        any |= note_through(&mut file.zones, place, event, window, every_day);
     }
     any
+}
+
+/// The zone at a place, if there is one, takes note of the instants between which an event asks it again and again. Whether there are any.
+fn note_through(
+    zones: &mut [Zone],
+    place: usize,
+    event: &Event,
+    window: &Window,
+    every_day: bool,
+) -> bool
+    ensures { zones.new ≡ zones.old }
+{
+    let (from, to) = asked_through(event, window, every_day);
+    if place >= zones.len() {
+        return false;
+    }
+    if from < to {
+        zones[place].note_through(from, to);
+        if asks_often(event) {
+            zones[place].note_often(from, to);
+        }
+        note_spans(&mut zones[place], event, from, to);
+        return true;
+    }
+    let (from, to) = recurs_through(event, window);
+    if from >= to || !is_dense(event) {
+        return false;
+    }
+    zones[place].note_through(from, to);
+    note_spans(&mut zones[place], event, from, to);
+    true
+}
+
+/// A zone takes note of what is near the starts of an event between two instants and, if it lasts long, near its ends, unless it asks there for few.
+fn note_spans(zone: &mut Zone, event: &Event, from: Moment, to: Moment)
+    ensures { zone.new ≡ zone.old }
+{
+    if !asks_for_many(event) {
+        return;
+    }
+    let lasting = lasting_of(event);
+    if lasting < SHORT {
+        zone.note_spans(from, to);
+        return;
+    }
+    zone.note_spans(from, to.saturating_sub(lasting));
+    zone.note_spans(from.saturating_add(lasting), to);
+}
+
+/// Whether an event starts once, has many RDATEs, or recurs often.
+fn asks_for_many(event: &Event) -> bool {
+    if event.rdates.len() > FEW || is_single(event) {
+        return true;
+    }
+    match &event.rule {
+        None => false,
+        Some(rule) => recurs_often(rule.parts()),
+    }
 }
 
 /// The zones of a file hold the spans between the same instants, if a few reach far. Most events ask what the one before them asks.
@@ -526,6 +572,14 @@ fn asked_through(event: &Event, window: &Window, every_day: bool) -> (Moment, Mo
         let end = first.saturating_add(lasting);
         return (first.saturating_sub(LATE), end.saturating_add(LATE));
     }
+    recurs_through(event, window)
+}
+
+/// From when to when an event that recurs asks in a window: from the first start that can reach it to the last end of one in it.
+fn recurs_through(event: &Event, window: &Window) -> (Moment, Moment) {
+    let lasting = lasting_of(event);
+    let first = local_of(event.start.stamp).seconds();
+    let from = window.from.saturating_sub(lasting).saturating_sub(LATE);
     let to = window.to.saturating_add(lasting).saturating_add(LATE);
     (from.max(first), to)
 }

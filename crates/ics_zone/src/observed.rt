@@ -87,6 +87,21 @@ const LISTED_OF_EACH: usize = 640;
 
 const LISTED: usize = 1_500_000;
 
+/// In a zone that has more observances, all onsets are listed where it is asked again and again.
+const SOME: usize = 32;
+
+/// How many onsets are listed so for each of its observances, but not more than `THROUGH`, of how many blocks, and of how many at a time.
+const THROUGH_OF_EACH: usize = 4_096;
+
+const THROUGH: usize = 400_000;
+
+const THROUGH_BLOCKS: usize = 128;
+
+const AT_A_TIME: usize = 64;
+
+/// Of how many spans a zone takes note to list all onsets there.
+const ASKED_SPANS: usize = 4_096;
+
 /// How many onsets near one local are listed for each observance of such a zone.
 const NEAR_OF_EACH: usize = 16;
 
@@ -95,6 +110,13 @@ const FEW_OFFSETS: usize = 4;
 
 /// How many spans are made for one local then.
 const MADE: usize = 6;
+
+/// Instants between which all spans are to be held.
+#[derive(Clone, Copy)]
+struct AskedSpan {
+    from: Moment,
+    to: Moment,
+}
 
 /// A span of no instant, which comes after all others.
 const NO_SPAN: Steady = Steady {
@@ -159,6 +181,11 @@ pub struct Observed {
     at_once: usize,
     /// How many onsets may still be listed.
     room: usize,
+    /// Where all spans are to be held, since the zone is asked there again and again. How many onsets may still be listed for that, and of how many
+    /// blocks.
+    asked: Vec<AskedSpan>,
+    through: usize,
+    blocks: usize,
     /// How many onsets near one local are listed. None, if the zone has few observances, or more onsets in a block than can be listed.
     listed_near: usize,
     /// Every offset that the zone has at some instant.
@@ -215,6 +242,7 @@ impl Observed {
         let often = first_often(&onsets);
         let at_once = spans_at_once(observances.len(), offsets.len());
         let room = onsets_listed(observances.len());
+        let through = onsets_through(observances.len());
         let listed_near = onsets_near(observances.len());
         let zone = ZoneObservances { said: observances };
         Ok(Observed {
@@ -224,6 +252,9 @@ impl Observed {
             often,
             at_once,
             room,
+            asked: Vec::new(alloc),
+            through,
+            blocks: THROUGH_BLOCKS,
             listed_near,
             offsets,
             held: Vec::new(alloc),
@@ -318,7 +349,7 @@ impl Observed {
         if self.room > 0 {
             self.hold_blocks(first, near - DAY, last);
         }
-        if self.room == 0 {
+        if self.room == 0 && !self.is_listed(near) {
             let begin = first.clamp(near - DAY, last);
             if !self.hold_from(begin, soon, last) {
                 self.reach_each_second(near);
@@ -351,9 +382,103 @@ impl Observed {
     {
         let last = to.clamp(FIRST_HELD, LAST_HELD);
         let first = from.clamp(FIRST_HELD, last);
-        if self.room == 0 {
+        if self.room == 0 && !self.is_listed(first) {
             self.hold_through(first, last);
         }
+    }
+
+    /// Takes note of instants between which all spans are to be held, if the zone has some observances.
+    pub fn note_spans(&mut self, from: Moment, to: Moment)
+        ensures { self.new ≡ self.old }
+    {
+        if self.through > 0 && self.asked.len() < ASKED_SPANS {
+            self.asked.push(AskedSpan { from, to }).ok();
+        }
+    }
+
+    /// Holds all spans between the instants that were noted, as far as there is room for them. Answers there are faster, and none changes.
+    pub fn hold_noted(&mut self)
+        ensures { self.new ≡ self.old }
+    {
+        if self.asked.is_empty() {
+            return;
+        }
+        let count = self.held.len();
+        self.list_each(count);
+        self.asked.clear();
+        if self.held.len() > count {
+            self.sort_held();
+        }
+    }
+
+    /// Lists the blocks of days between the instants that were noted, in their order, unless their spans are among the first that are held, of which
+    /// there are so many.
+    fn list_each(&mut self, count: usize)
+        ensures { self.new ≡ self.old }
+    {
+        self.asked.sort_unstable_by_key(|asked| asked.from);
+        let mut begin = FIRST_HELD;
+        for k in 0..self.asked.len() {
+            let Some(asked) = self.asked.get(k) else {
+                return;
+            };
+            let last = asked.to.clamp(FIRST_HELD, LAST_HELD);
+            let first = asked.from.max(begin).clamp(FIRST_HELD, LAST_HELD);
+            begin = self.list_blocks(count, first, last);
+        }
+    }
+
+    /// Holds all spans of the blocks of days that reach from an instant to another, as far as there is room. The instant where the next block begins.
+    fn list_blocks(&mut self, count: usize, from: Moment, to: Moment) -> Moment
+        requires from { IsWithin 270_000_000_000 from }
+        requires to { to ≤ℤ pos 270_000_000_000 }
+        ensures { self.new ≡ self.old }
+    {
+        let mut at = from - from.rem_euclid(BLOCK);
+        for _ in 0..AT_A_TIME {
+            if at > to || self.through == 0 {
+                return at;
+            }
+            let last = at + (BLOCK - 1);
+            self.list_block(count, at, last);
+            at = last + 1;
+        }
+        at
+    }
+
+    /// The same of one block, if there is room. Else no more blocks are listed so.
+    fn list_block(&mut self, count: usize, from: Moment, last: Moment)
+        requires from { IsSearched from }
+        requires last { IsSearched last }
+        requires order { from ≤ℤ last }
+        ensures { self.new ≡ self.old }
+    {
+        if self.is_held_to(count, from, last) {
+            return;
+        }
+        let room = self.through;
+        self.through = 0;
+        if self.blocks == 0 {
+            return;
+        }
+        self.blocks -= 1;
+        if let Some((count, spans)) = self.block_spans(from, last, room) {
+            self.through = room.saturating_sub(count);
+            self.hold_each(&spans);
+        }
+    }
+
+    /// Whether all spans about an instant may be held, since blocks were listed.
+    fn is_listed(&self, near: Moment) -> bool {
+        self.blocks < THROUGH_BLOCKS && self.held_over(near, near).is_some()
+    }
+
+    /// Whether two instants are in the first spans that are held, of which there are so many.
+    fn is_held_to(&self, count: usize, from: Moment, to: Moment) -> bool {
+        let Some(held) = self.held.get(..count) else {
+            return false;
+        };
+        span_over(held, from, from).is_some() && span_over(held, to, to).is_some()
     }
 
     /// Holds the spans from an instant on and up to another. Where short ones follow each other it goes on a week later.
@@ -633,9 +758,9 @@ impl Observed {
             return;
         }
         self.look_about(from);
-        match self.spans_between(from, from, last, self.room) {
-            Some(spans) => {
-                self.room = self.room.saturating_sub(spans.len());
+        match self.block_spans(from, last, self.room) {
+            Some((count, spans)) => {
+                self.room = self.room.saturating_sub(count);
                 self.hold_each(&spans);
                 self.sort_held();
             }
@@ -680,8 +805,32 @@ impl Observed {
     {
         let alloc = *self.held.allocator();
         let table = table_of(alloc, &self.onsets, from, last, most)?;
-        let mut spans = self.first_span(first_instant(&table, last), near, last)?;
-        self.add_spans(&table, last, &mut spans).ok()?;
+        self.spans_by(&table, near, last)
+    }
+
+    /// How many onsets a block of days has, and its spans. None if the onsets are more than so many or an allocation fails.
+    fn block_spans(&self, from: Moment, last: Moment, most: usize) -> Option<(usize, Vec<Steady>)>
+        requires from { IsSearched from }
+        requires last { IsSearched last }
+        requires order { from ≤ℤ last }
+        ensures { IfSome result (λ block. AreSteady (zone_offset self.now.said.items) block.1.items) }
+    {
+        let alloc = *self.held.allocator();
+        let table = table_of(alloc, &self.onsets, from, last, most)?;
+        let spans = self.spans_by(&table, from, last)?;
+        Some((table.len(), spans))
+    }
+
+    /// The spans from an instant on, or from the first onset of a table if that is earlier, and up to another by the onsets of the table. None if an
+    /// allocation fails.
+    fn spans_by(&self, table: &[i64], near: Moment, last: Moment) -> Option<Vec<Steady>>
+        requires near { IsSearched near }
+        requires last { IsSearched last }
+        requires table { (from : ℤ) × IsTable self.now.said.items from last table.now }
+        ensures { IfSome result (λ spans. AreSteady (zone_offset self.now.said.items) spans.items) }
+    {
+        let mut spans = self.first_span(first_instant(table, last), near, last)?;
+        self.add_spans(table, last, &mut spans).ok()?;
         Some(spans)
     }
 
@@ -1443,6 +1592,15 @@ fn asked_before(offsets: &[i32], seconds: i64, next: Moment) -> usize
 fn onsets_listed(observances: usize) -> usize {
     if observances > FEW {
         observances.saturating_mul(LISTED_OF_EACH).min(LISTED)
+    } else {
+        0
+    }
+}
+
+/// How many onsets of a zone are listed where it is asked again and again.
+fn onsets_through(observances: usize) -> usize {
+    if observances > SOME {
+        observances.saturating_mul(THROUGH_OF_EACH).min(THROUGH)
     } else {
         0
     }

@@ -120,6 +120,15 @@ impl SharedObserved {
         self.through = (self.through.0.min(from), self.through.1.max(to));
     }
 
+    /// Takes note of instants between which all spans are to be held, if the zone is not shared yet and has some observances.
+    pub fn note_spans(&mut self, from: Moment, to: Moment)
+        ensures { self.new ≡ self.old }
+    {
+        if let Some(zone) = Rc::get_mut(&mut self.zone) {
+            zone.note_spans(from, to);
+        }
+    }
+
     /// Finds the onsets between the instants that were noted, if the zone is not shared yet, so that answers are faster. None changes.
     fn find(&mut self)
         ensures { self.new ≡ self.old }
@@ -131,6 +140,7 @@ impl SharedObserved {
         self.through = NOWHERE;
         if let Some(zone) = Rc::get_mut(&mut self.zone) {
             zone.find_through(from, to);
+            zone.hold_noted();
         }
     }
 

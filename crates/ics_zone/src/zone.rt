@@ -155,6 +155,16 @@ impl Zone {
         }
     }
 
+    /// Takes note of instants, of those of `note_through`, between which a zone of some observances is to hold all spans. No answer changes.
+    pub fn note_spans(&mut self, from: Moment, to: Moment)
+        ensures { self.new ≡ self.old }
+    {
+        match &mut self.kind {
+            ZoneKind::ByObservances(observed) => observed.note_spans(from, to),
+            ZoneKind::ByJiff(_) => {}
+        }
+    }
+
     /// Takes note of instants between which the zone will be asked so often that a zone of a file is to find its stretches there. No answer changes.
     pub fn note_often(&mut self, from: Moment, to: Moment)
         ensures { self.new ≡ self.old }
