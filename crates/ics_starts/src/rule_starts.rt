@@ -43,6 +43,12 @@ use std::alloc::{AllocError, Global};
 /// Kept locals that are nearer to one another than these seconds are worth a stretch.
 const CLOSE: i64 = 3_600;
 
+/// Spans that are made for fewer locals take longer than the questions that they save.
+const MANY: i64 = 512;
+
+/// How many seconds pass before spans are made again then.
+const LATER: i64 = 128 * 86_400;
+
 /// The number of the local 1970-01-01T00:00:00.
 const EPOCH: i64 = 62_167_219_200;
 
@@ -221,13 +227,23 @@ fn shown_from(stretch: Stretch, next: Moment, moment: Moment) -> Moment
     stretch.to
 }
 
-/// A stretch by which a local, given by its seconds, is read: the known one or, if the clock is asked, another.
+/// Whether spans that are kept were made for a local, given by its seconds.
+fn are_made_for(spans: &Option<Spans>, local: Moment) -> bool {
+    match spans {
+        None => false,
+        Some(spans) => spans.are_near(local),
+    }
+}
+
+/// A stretch by which a local, given by its seconds, is read: the known one or, if the clock is asked, another. Where new spans are made for few locals
+/// so many seconds apart, none are made for some time.
 fn stretch_at(
     zones: FileZones<'_>,
     time: Time,
     known: Stretch,
     spans: &mut Option<Spans>,
     local: Moment,
+    step: Moment,
     asks: bool,
 ) -> Stretch
     requires time { IsTimeOf zones.zones.now time }
@@ -240,7 +256,12 @@ fn stretch_at(
     if !asks {
         return known;
     }
+    let are_known = are_made_for(spans, local);
     let stretch = stretch_by(zones, time, spans, local);
+    let far = local.saturating_add(step.saturating_mul(MANY));
+    if !are_known && are_made_for(spans, local) && !are_made_for(spans, far) {
+        return no_stretch(local + LATER);
+    }
     if is_in(stretch, local) {
         stretch
     } else {
@@ -459,6 +480,7 @@ impl<'a> RuleStarts<'a> {
                     self.stretch,
                     &mut self.spans,
                     seconds,
+                    seconds.saturating_sub(self.next).saturating_add(1),
                     asks,
                 );
                 let time = time_at(event.start, local);
@@ -645,6 +667,7 @@ impl<'a> RuleStarts<'a> {
             self.stretch,
             &mut self.spans,
             local,
+            0,
             asks,
         );
         match event.start.stamp {
