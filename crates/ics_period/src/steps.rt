@@ -230,9 +230,19 @@ fn has_rest(set: BitSet, least: u64, divisor: u64) -> bool
     false
 }
 
-/// Whether steps of an interval from a period on reach one whose time of day is allowed, on whichever days. No contract says that they do: it tells
-/// a cost.
-fn reaches(clock: &StepClock, number: u64, interval: u32) -> bool {
+/// So many steps are looked at to see whether one is allowed.
+const FEW_STEPS: u64 = 2_880;
+
+/// Whether steps of an interval from a period on reach one whose time of day and weekday are allowed or, where they go through many periods of a cycle,
+/// one whose time of day is. No contract says that they do: it tells a cost.
+fn reaches(clock: &StepClock, number: u64, interval: u32) -> bool
+    requires { number < 2 ^ 40 }
+{
+    let periods = u64::from(clock.cycle) * u64::from(clock.per_day);
+    let steps = periods / common_divisor(periods, u64::from(interval)).clamp(1, 604_800);
+    if steps <= FEW_STEPS {
+        return clock.steps_passed(number, interval, steps) < steps;
+    }
     let divisor = common_divisor(u64::from(clock.per_day), u64::from(interval)).clamp(1, 86_400);
     let rest = number % divisor;
     let mut at = 0;
