@@ -184,33 +184,6 @@ fn steps_in_rounds(search: &Search<'_>, from: u64, before: u64) -> u64
 
 /// How many steps that have an allowed time there are on a day and on those that follow it by whole rounds, before another, by those of the days
 /// from one on.
-fn timely_in_rounds(
-    search: &Search<'_>,
-    steps: &Option<[u16; RESTS]>,
-    begin: u64,
-    from: u64,
-    before: u64,
-) -> u64
-    requires fine { 0 < seconds_of search.now.parts.now.frequency }
-    requires unit { seconds_of search.now.parts.now.frequency ≤ 86400 }
-    requires first { search.now.first < begin * per_day search.now.parts.now.frequency }
-    requires begun { begin ≤ from }
-    requires order { from ≤ before }
-    requires before { before ≤ days_before_year 9_801 + 1 }
-    requires steps { MatchOption steps.now (Unit {0}) (HasRests search.now.parts.now search.now.first begin) }
-    ensures { result ≡ count (before * per_day search.now.parts.now.frequency)
-        (is_timely_on search.now.parts.now search.now.first (is_stepped from 146_097)) }
-{
-    let mut total = 0;
-    let mut day = from;
-    while day < before {
-        total += steps_at(search, steps, begin, day);
-        day += ROUND;
-    }
-    total
-}
-
-/// The same, whether or not each time is allowed.
 fn steps_of_rounds(
     search: &Search<'_>,
     steps: &Option<[u16; RESTS]>,
@@ -229,10 +202,15 @@ fn steps_of_rounds(
         (is_timely_on search.now.parts.now search.now.first (is_stepped from 146_097)) }
 {
     if lets_all_times(search.parts) {
-        steps_in_rounds(search, from, before)
-    } else {
-        timely_in_rounds(search, steps, begin, from, before)
+        return steps_in_rounds(search, from, before);
     }
+    let mut total = 0;
+    let mut day = from;
+    while day < before {
+        total += steps_at(search, steps, begin, day);
+        day += ROUND;
+    }
+    total
 }
 
 /// How many periods of whole days are allowed. A day is looked at once for all that follow it by whole rounds.

@@ -2,7 +2,7 @@ use Rattle.std.proofs.Common.{◌≡◌, true, ◌+◌, ◌-◌, ◌*◌, min}
 use Rattle.ics_period.specs.Candidates.{is_stepped}
 use Rattle.ics_period.specs.Ranks.{count}
 use Rattle.ics_rule.specs.Inner.OpenPeriods.{per_day, is_timely_on}
-use Rattle.ics_rule.proofs.each_day.timely_in_rounds.Given as goal
+use Rattle.ics_rule.proofs.each_day.steps_of_rounds.Given as goal
 
 -- the periods of the days before one that follows by whole rounds are counted
 abbrev pub invariant-loop-day : goal.invariant-loop-day
