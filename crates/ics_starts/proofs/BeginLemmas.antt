@@ -1,6 +1,6 @@
 -- Where the search of a rule begins.
-use Rattle.std.proofs.Common.{◌≡◌, ◌∙◌, ◌+ℤ◌, ◌-ℤ◌, ◌≤ℤ◌, ◌<ℤ◌, ℤ, pos, refl, subst, arith}
-use Rattle.std.proofs.Common.{Bool, true, Option, None, Some, MatchOption, is_some}
+use Rattle.std.proofs.Common.{◌≡◌, ◌∙◌, ◌+ℤ◌, ◌-ℤ◌, ◌≤ℤ◌, ◌<ℤ◌, ℤ, pos, refl, arith}
+use Rattle.std.proofs.Common.{true, Option, None, Some, MatchOption}
 use Rattle.std.specs.Prelude.{is_none}
 use Rattle.std.specs.Int.{int_min}
 use Rattle.std.proofs.lemmas.Int.{ints}
@@ -8,17 +8,13 @@ use Rattle.ics_event.specs.declared.event.Event.{Event}
 use Rattle.ics_fields.specs.Locals.{local_seconds, midnight, whole_days}
 use Rattle.ics_fields.specs.RuleParts.{RuleParts}
 use Rattle.ics_fields.specs.declared.local.Local.{Local}
-use Rattle.ics_period.specs.Recurrence.{Recurrence}
-use Rattle.ics_starts.specs.declared.mark.Mark.{Mark}
 use Rattle.ics_starts.specs.declared.rule_starts.RuleStarts.{RuleStarts}
 use Rattle.ics_starts.specs.declared.zones.FileZones.{FileZones}
-use Rattle.ics_starts.specs.RuleMarks.{IsCountMark, IsMarkOf}
 use Rattle.ics_listing.specs.StartTimes.{local_of}
 use Rattle.ics_listing.specs.declared.window.Window.{Window}
 use Rattle.ics_starts.specs.Leeway.{seconds_off}
 use Rattle.ics_starts.specs.RuleStarts.{ends_at}
 use Rattle.ics_starts.specs.SeriesStarts.{HasOwnRule, IsOwnRule, IsRuleBegin}
-use Rattle.ics_starts.specs.Starts.{recurrence_of}
 use Rattle.ics_starts.specs.FileZones.{clocks_in}
 use Rattle.ics_starts.proofs.RuleStepLemmas.{ends-most}
 use Rattle.ics_starts.proofs.SettledLemmas.{off-range}
@@ -55,14 +51,6 @@ own-begin zones event w first from s begin is =
       late = rw is.3 begin.late;
       low = rw is.3 (λ n on before. less-by (begin.low n on before) ends.0);
     }
-
--- a mark of the event's rule is one under COUNT, where there is one
-pub marked : (event : Event) {rule : Recurrence} {counts : Bool} (given mark : Option Mark) → recurrence_of event ≡ Some rule → IsMarkOf event given
-    → is_some rule.parts.count ≡ counts → MatchOption mark (Unit {0}) (λ m. (given ≡ Some m) × (counts ≡ true))
-    → MatchOption mark (Unit {0}) (IsCountMark rule)
-marked event given None has own same h = tt
-marked event {rule = rule} given (Some m) has own same h =
-    let is = subst (IsMarkOf event) h.0 own in record { counts = same ∙ h.1; begun = is rule has }
 
 no-rule : (o : Option RuleParts) → is_none o ≡ true → o ≡ None
 no-rule None e = refl
