@@ -220,6 +220,20 @@ def apart(count, rule):
             for number in range(count)]
 
 
+def offset_each(count, gap):
+    """So many observances since 1971, so many minutes apart, that begin each day, with an offset each."""
+    return [part('STANDARD', '19710101T%02d%02d00' % divmod(number * gap, 60), '+0000', '+%02d%02d' % divmod(number + 1, 60), 'RRULE:FREQ=DAILY')
+            for number in range(count)]
+
+
+def in_turn(parts, count):
+    """So many events of 36,525 days in a time zone of these observances, one an hour."""
+    lines = zone('odd', *parts)
+    for number in range(count):
+        lines += ['BEGIN:VEVENT', 'UID:%d' % number, 'DTSTART;TZID=odd:202401%02dT%02d0000' % (number // 24 + 1, number % 24), LONG, 'END:VEVENT']
+    return calendar(lines)
+
+
 def together(first, second, rule):
     """Two observances since the year 0001 with an offset each that begin at the same instants by a rule."""
     return [part('STANDARD', '00010101T000000', '-0100', first, 'RRULE:' + rule), part('DAYLIGHT', '00010101T020000', '+0100', second, 'RRULE:' + rule)]
@@ -508,6 +522,19 @@ ROWS = [
      lambda: rules(8, 'FREQ=SECONDLY;INTERVAL=22284;BYHOUR=19;COUNT=4294967295'), ['9700-07-01', '1d'], 4, 32),
     ('53 rules of each 16,975th second at an hour of two weekdays, under COUNT, a day of 9700',
      lambda: rules(53, 'FREQ=SECONDLY;INTERVAL=16975;BYMONTH=1,2,3,4,5,6,7,8,10,11,12;BYDAY=MO,TU;BYHOUR=7;COUNT=4294967295'), ['9700-07-01', '1d'], 8, 32),
+    ('a daily event of 36,525 days in a time zone of 80 daily observances, each day of a year',
+     lambda: in_zone(offset_each(80, 15), '20230101T000000', LONG, 'RRULE:FREQ=DAILY'), ['2024-01-01', '366d', '--every-day'], 6, 32),
+    ('400 events of 36,525 days in a time zone of 400 daily observances, each day of a month',
+     lambda: in_turn(offset_each(400, 3), 400), ['2024-01-01', '30d', '--every-day'], 4, 32),
+    ('an event of each minute that lasts 119 days in a time zone of 80 daily observances',
+     lambda: in_zone(offset_each(80, 15), '20240101T000000', 'DURATION:P119D', 'RRULE:FREQ=MINUTELY'), DAY, 8, 32),
+    ('an hourly event of 36,525 days in a time zone of 20 daily observances and two of each 15 seconds',
+     lambda: in_zone(offset_each(20, 15) + apart(2, 'FREQ=DAILY;' + by(HOURS, EACH, '0,15,30,45')), '20230110T000000', LONG, 'RRULE:FREQ=HOURLY'),
+     DAY, 2, 32),
+    ('7 rules of each 25,200th second whose hours fall on a weekday each, another one named, each day of ages',
+     lambda: rules(7, 'FREQ=SECONDLY;INTERVAL=25200;BYDAY=TU,WE,TH,FR,SA,SU;BYHOUR=0,7,14,21'), AGES[:3], 1, 32),
+    ('77 rules of a second each two weeks on another weekday than its own, each day of ages',
+     lambda: rules(77, 'FREQ=SECONDLY;INTERVAL=1209600;BYMONTHDAY=-31;BYDAY=TU,WE,TH,FR,SA,SU'), AGES[:3], 1, 32),
     ('400,000 faulty events, --keep-going', lambda: faulty(400_000), [*DAY, '--keep-going'], 12, 256),
 ]
 
