@@ -1,6 +1,6 @@
 -- Which starts EXDATEs take out.
 use Rattle.std.proofs.Common.{◌≡◌, ◌<◌, ℕ, ℤ, ◌+ℤ◌, ◌≤ℤ◌, Bool, true, false, ◌||◌, List, [], ◌∷◌, ◌++◌, length, get_or, Result, is_ok, refl, sym, ◌∙◌, ap}
-use Rattle.std.proofs.Common.{◌<ℤ◌, ◌-ℤ◌, w64, to_z, of_z, not, if◌then◌else◌, int_cmp, int_eq, int_le, arith}
+use Rattle.std.proofs.Common.{◌⊎◌, inl, inr, ◌<ℤ◌, ◌-ℤ◌, w64, to_z, of_z, not, if◌then◌else◌, int_cmp, int_eq, int_le, arith}
 use Rattle.std.specs.List.{list_any}
 use Rattle.std.specs.List.Sorted.{IsBinarySearchResult, IsPermutation, IsSearchInRange, IsSorted}
 use Rattle.std.proofs.lemmas.Bool.{not-false}
@@ -23,9 +23,10 @@ use Rattle.ics_event.specs.Event.{stamp_seconds}
 use Rattle.ics_starts.specs.Exclusions.{excludes_by, excludes_time, is_among, is_day_in, is_known, shown_day, takes_out, with_instant}
 use Rattle.ics_starts.specs.FileZones.{clocks_in, is_early, is_past}
 use Rattle.ics_starts.specs.Found.{counts}
-use Rattle.ics_starts.proofs.InstantLemmas.{instant-near}
-use Rattle.ics_fields.specs.Locals.{whole_days}
+use Rattle.ics_starts.proofs.InstantLemmas.{instant-near, near-clock}
+use Rattle.ics_fields.specs.Locals.{midnight, whole_days}
 use Rattle.ics_listing.proofs.Cases.{equal-true}
+use Rattle.ics_listing.proofs.NearLemmas.{day-under}
 use Rattle.ics_listing.proofs.ListingLemmas.{in-any, in-contains, search-finds}
 
 -- how far two offsets lie apart
@@ -67,6 +68,25 @@ early-false zones time t l = less-unequal (instant (clocks_in zones) time) t (om
 pub later-false : (zones : FileZones) (time : Time) (t : ℤ) → (t +ℤ whole_days 2) ≤ℤ stamp_seconds time.stamp
     → int_eq (instant (clocks_in zones) time) t ≡ false
 later-false zones time t l = more-unequal (instant (clocks_in zones) time) t (omega (arith, ints, l, instant-near zones time))
+
+-- no clock shows a day at an instant that is two days before it or more, or as far behind it
+pub far-day : (zones : FileZones) (first : Time) (to from day t : ℤ) → from ≤ℤ t → t <ℤ to
+    → ((midnight day +ℤ whole_days 3) ≤ℤ from) ⊎ ((to +ℤ whole_days 2) ≤ℤ midnight day)
+    → int_eq day (shown_day (clock_of (clocks_in zones) first) t) ≡ false
+far-day zones first to from day t late early far = by far
+  where
+    clock : Clock
+    clock = clock_of (clocks_in zones) first
+
+    by : ((midnight day +ℤ whole_days 3) ≤ℤ from) ⊎ ((to +ℤ whole_days 2) ≤ℤ midnight day) → int_eq day (shown_day clock t) ≡ false
+    by (inl l) =
+        let off = (near-clock zones first.zone first.stamp).offset t in
+        let under = day-under (t +ℤ clock.offset t) (shown_day clock t) refl in
+        less-unequal day (shown_day clock t) (omega (arith, ints, l, late, off.0, off.1, under.0, under.1))
+    by (inr l) =
+        let off = (near-clock zones first.zone first.stamp).offset t in
+        let under = day-under (t +ℤ clock.offset t) (shown_day clock t) refl in
+        more-unequal day (shown_day clock t) (omega (arith, ints, l, early, off.0, off.1, under.0, under.1))
 
 -- two instants differ if one of them is among some and the other is not
 unequal-among : (xs : List ℤ) (a b : ℤ) → is_among xs a ≡ false → is_among xs b ≡ true → int_eq a b ≡ false
@@ -162,3 +182,31 @@ pub sorted-takes_out : (clock : Clock) {instants days sorted rising : List ℤ} 
 sorted-takes_out clock {instants = instants} {days = days} {sorted = sorted} {rising = rising} t p q =
     ap (λ b. b || is_day_in clock rising t) (sym (list_any-IsPermutation (λ x. int_eq x t) instants sorted p))
     ∙ ap (λ b. list_any (λ x. int_eq x t) instants || b) (sym (list_any-IsPermutation _ days rising q))
+
+-- a day is added, or no clock shows it at an instant that is known
+module _ (zones : FileZones) (first : Time) (w : Window) (from : ℤ) (running instants days new : List ℤ) (day : ℤ) (removes : ℤ → Bool)
+    (same : (t : ℤ) → removes t ≡ int_eq day (shown_day (clock_of (clocks_in zones) first) t)) where
+  abbrev clock-of-first : Clock
+  clock-of-first = clock_of (clocks_in zones) first
+
+  abbrev is-added : Type 0
+  is-added = (new ≡ days ++ (day ∷ [])) ⊎ ((new ≡ days) × ((running ≡ [])
+      × (((midnight day +ℤ whole_days 3) ≤ℤ from) ⊎ ((w.to +ℤ whole_days 2) ≤ℤ midnight day))))
+
+  added-day : (t : ℤ) → new ≡ days ++ (day ∷ [])
+      → takes_out clock-of-first instants new t ≡ (takes_out clock-of-first instants days t || removes t)
+  added-day t e = ap (λ xs. takes_out clock-of-first instants xs t) e
+      ∙ (pushed-day clock-of-first instants days day t ∙ ap (λ b. takes_out clock-of-first instants days t || b) (sym (same t)))
+
+  pub day-only : is-added → (t : ℤ) → takes_out clock-of-first instants new t ≡ true → (takes_out clock-of-first instants days t || removes t) ≡ true
+  day-only (inl e) t out = sym (added-day t e) ∙ out
+  day-only (inr e) t out = ap (λ a. a || removes t) (sym (ap (λ xs. takes_out clock-of-first instants xs t) e.0) ∙ out)
+
+  pub day-same : is-added → (t : ℤ) → is_known from running t ≡ true → t <ℤ w.to
+      → takes_out clock-of-first instants new t ≡ (takes_out clock-of-first instants days t || removes t)
+  day-same (inl e) t known early = added-day t e
+  day-same (inr e) t known early =
+      let begun : int_le from t ≡ true = sym (or-false (int_le from t)) ∙ (sym (ap (λ xs. int_le from t || is_among xs t) e.1.0) ∙ known) in
+      let far = far-day zones first w.to from day t (int_le_true from t begun) early e.1.1 in
+      ap (λ xs. takes_out clock-of-first instants xs t) e.0
+      ∙ sym (ap (λ b. takes_out clock-of-first instants days t || b) (same t ∙ far) ∙ or-false (takes_out clock-of-first instants days t))

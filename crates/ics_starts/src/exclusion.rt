@@ -1,5 +1,5 @@
 //! The starts that the EXDATEs of an event remove.
-ghost use Rattle.std.specs.Prelude.{◌≡◌, ◌<ℤ◌, ◌≤ℤ◌, ◌+ℤ◌, ◌||◌, ℤ, true, IfOk};
+ghost use Rattle.std.specs.Prelude.{◌≡◌, ◌<ℤ◌, ◌≤ℤ◌, ◌+ℤ◌, ◌||◌, ◌⊎◌, ◌++◌, ◌∷◌, [], ℤ, true, false, IfOk};
 ghost use Rattle.std.specs.List.Sorted.{IsSorted};
 ghost use Rattle.std.specs.Ordering.{int_cmp};
 ghost use Rattle.ics_starts.specs.Clocks.{clock_of, instant};
@@ -7,7 +7,7 @@ ghost use Rattle.ics_starts.specs.Inner.ClockStretches.{AreKnown};
 ghost use Rattle.ics_starts.specs.Exclusions.{excludes, is_among, is_excluded, is_known, shown_day, takes_out, with_instant};
 ghost use Rattle.ics_starts.specs.FileZones.{clocks_in, IsOwnEvent, IsTimeOf};
 ghost use Rattle.ics_starts.specs.Found.{counts};
-ghost use Rattle.ics_fields.specs.Locals.{day_of_local};
+ghost use Rattle.ics_fields.specs.Locals.{day_of_local, midnight, whole_days};
 ghost use Rattle.ics_listing.specs.WindowBounds.{window_last, occurrence_first};
 
 use crate::clock_stretch::ClockStretches;
@@ -19,6 +19,8 @@ use ics_listing::{Window, date_of};
 use ics_values::{Local, Moment, Stamp};
 use ics_zone::{Bounds, Place, Stretch};
 use std::alloc::{AllocError, Global};
+
+const DAY: i64 = 86_400;
 
 /// How many removed days are passed over at a time, at most.
 const RUN_DAYS: i32 = 64;
@@ -193,6 +195,41 @@ pub(crate) fn is_among(instants: &[Moment], moment: Moment) -> bool
     instants.binary_search(&moment).is_ok()
 }
 
+/// Whether a clock may show a day at an instant before the window's end and from another on.
+fn may_show(day: i32, window: &Window, from: Moment) -> bool
+    ensures { result ≡ false → ((midnight day +ℤ whole_days 3) ≤ℤ from) ⊎ ((window.now.to +ℤ whole_days 2) ≤ℤ midnight day) }
+{
+    let begin = i64::from(day) * DAY;
+    if begin + 3 * DAY <= from {
+        return false;
+    }
+    if window.to + 2 * DAY <= begin {
+        return false;
+    }
+    true
+}
+
+/// Adds a day that an EXDATE removes, unless no clock shows it at an instant that is to be known of.
+fn push_day(
+    days: &mut Vec<i32>,
+    day: i32,
+    window: &Window,
+    from: Moment,
+    running: &[Moment],
+) -> Result<(), AllocError>
+    ensures { IfOk result (λ _. (days.new.items ≡ days.old.items ++ (day ∷ []))
+        ⊎ ((days.new.items ≡ days.old.items) × ((running.now ≡ [])
+        × (((midnight day +ℤ whole_days 3) ≤ℤ from) ⊎ ((window.now.to +ℤ whole_days 2) ≤ℤ midnight day))))) }
+{
+    if running.is_empty() {
+        if !may_show(day, window, from) {
+            return Ok(());
+        }
+    }
+    days.push(day)?;
+    Ok(())
+}
+
 /// Adds what an EXDATE removes from an event with this DTSTART. If the event has dates, a value of any
 /// form means its date.
 fn push_exdate(
@@ -229,7 +266,7 @@ fn push_exdate(
                 running,
             )?
         }
-        (_, Stamp::Date(day)) => days.push(day)?,
+        (_, Stamp::Date(day)) => push_day(days, day, window, from, running)?,
         _ => push_instant(instants, zones, known, exdate, window, from, running)?,
     }
     Ok(())

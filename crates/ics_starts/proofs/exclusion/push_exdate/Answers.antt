@@ -5,7 +5,7 @@ use Rattle.ics_values.specs.declared.stamp.Stamp.{Stamp}
 use Rattle.ics_starts.specs.Clocks.{clock_of, instant}
 use Rattle.ics_starts.specs.Exclusions.{excludes_by, takes_out}
 use Rattle.ics_starts.specs.FileZones.{clocks_in}
-use Rattle.ics_starts.proofs.ExclusionLemmas.{excludes-day, excludes-instant, pushed-day, pushed-instant, pushed-only}
+use Rattle.ics_starts.proofs.ExclusionLemmas.{day-only, day-same, excludes-day, excludes-instant, pushed-instant, pushed-only}
 use Rattle.ics_listing.proofs.Cases.{moment-back}
 use Rattle.ics_starts.proofs.exclusion.push_exdate.Goals as goal
 
@@ -38,17 +38,18 @@ returns-in_ok-push_instant-in_default c =
           c.args.instants.now.items c.args.days.now.items c.args.exdate known early pushed ∙ same t;
     }
 
-pub returns-in_ok-push-in_default-Date : goal.returns-in_ok-push-in_default-Date
-returns-in_ok-push-in_default-Date c =
+pub returns-in_ok-push_day-in_default-Date : goal.returns-in_ok-push_day-in_default-Date
+returns-in_ok-push_day-in_default-Date c =
     let clocks = clocks_in c.args.zones in
-    let clock = clock_of clocks c.args.first in
-    let instants = c.args.instants.now.items in
-    let days = c.args.days.now.items in
     let day = c.in_default-Date.day in
     let fits : SFits w32 c.in_default-Date.day = search rules in
     let back : to_z w32 (of_z w32 c.in_default-Date.day) ≡ c.in_default-Date.day = omega (arith, ints) in
-    let pushed = rw back at c.in_ok-push-in_default-Date.ensures.items in
-    let same = λ (t : ℤ). ap (λ xs. takes_out clock instants xs t) pushed ∙ (pushed-day clock instants days day t
-    ∙ ap (λ b. takes_out clock instants days t || b)
-    (sym (excludes-day clocks c.args.first c.args.exdate c.args.first.stamp day t c.in_default-Date.not-Date-0 c.in_default-Date.is-1))) in
-    record { known = c.requires.known; only = λ t out. sym (same t) ∙ out; same = λ t known early. same t }
+    let pushed = rw (back, moment-back c.args.from c.ranges.from.sfits) at c.in_ok-push_day-in_default-Date.ensures in
+    let same = λ (t : ℤ). excludes-day clocks c.args.first c.args.exdate c.args.first.stamp day t c.in_default-Date.not-Date-0 c.in_default-Date.is-1 in
+    record {
+      known = c.requires.known;
+      only = day-only c.args.zones c.args.first c.args.window.now c.args.from c.args.running.now c.args.instants.now.items c.args.days.now.items
+          c.push_day.new.days.items day _ same pushed;
+      same = day-same c.args.zones c.args.first c.args.window.now c.args.from c.args.running.now c.args.instants.now.items c.args.days.now.items
+          c.push_day.new.days.items day _ same pushed;
+    }
