@@ -102,7 +102,7 @@ const AT_A_TIME: usize = 64;
 /// Of how many spans a zone takes note to list all onsets there.
 const ASKED_SPANS: usize = 4_096;
 
-/// How many onsets near one local are listed for each observance of such a zone.
+/// How many onsets near one local are listed for each observance of a zone that has more than `FEW`.
 const NEAR_OF_EACH: usize = 16;
 
 /// In a zone that has no more offsets, spans are made for the instants at which each of them may show a local.
