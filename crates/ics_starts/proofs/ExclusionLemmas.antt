@@ -1,18 +1,22 @@
 -- Which starts EXDATEs take out.
 use Rattle.std.proofs.Common.{◌≡◌, ◌<◌, ℕ, ℤ, ◌+ℤ◌, ◌≤ℤ◌, Bool, true, false, ◌||◌, List, [], ◌∷◌, ◌++◌, length, get_or, Result, is_ok, refl, sym, ◌∙◌, ap}
-use Rattle.std.proofs.Common.{◌⊎◌, inl, inr, ◌<ℤ◌, ◌-ℤ◌, w64, to_z, of_z, not, if◌then◌else◌, int_cmp, int_eq, int_le, arith}
+use Rattle.std.proofs.Common.{◌⊎◌, inl, inr, ◌<ℤ◌, ◌-ℤ◌, ◌*ℤ◌, pos, w64, to_z, of_z, not, if◌then◌else◌, int_cmp, int_eq, int_le, arith}
+use Rattle.std.proofs.Common.{slice_get, subst, Some}
+use Rattle.std.specs.Option.{option_map}
 use Rattle.std.specs.List.{list_any}
 use Rattle.std.specs.List.Sorted.{IsBinarySearchResult, IsPermutation, IsSearchInRange, IsSorted}
 use Rattle.std.proofs.lemmas.Bool.{not-false}
 use Rattle.std.proofs.lemmas.Cmp.{int_cmp_total}
 use Rattle.std.proofs.lemmas.Int.{ints}
+use Rattle.std.proofs.lemmas.List.{length-map}
 use Rattle.std.proofs.lemmas.List.Elements.{Contains-get_or}
-use Rattle.std.proofs.lemmas.List.Folds.{list_any-append}
+use Rattle.std.proofs.lemmas.List.Folds.{list_any-append, Any-from_list_any}
+use Rattle.std.proofs.lemmas.Option.{slice_get-map, slice_get_read}
 use Rattle.std.proofs.lemmas.List.Sorted.{list_any-IsPermutation}
 use Rattle.std.proofs.Math.Bool.{or-false}
 use Rattle.jiff_core.specs.Calendar.{IsWithin}
 use Rattle.ics_values.specs.declared.stamp.Stamp.{Stamp}
-use Rattle.ics_values.specs.declared.stamp.Stamp.TheVariants.{Date}
+use Rattle.ics_values.specs.declared.stamp.Stamp.TheVariants.{Date, Floating, Utc, Zoned}
 use Rattle.ics_event.specs.Event.{Time}
 use Rattle.ics_zone.proofs.Cases.{int_le_true}
 use Rattle.ics_listing.specs.declared.window.Window.{Window}
@@ -20,7 +24,12 @@ use Rattle.ics_starts.specs.declared.zones.FileZones.{FileZones}
 use Rattle.ics_listing.specs.FileClocks.{Clock, Clocks}
 use Rattle.ics_starts.specs.Clocks.{clock_of, instant}
 use Rattle.ics_event.specs.Event.{stamp_seconds}
-use Rattle.ics_starts.specs.Exclusions.{excludes_by, excludes_time, is_among, is_day_in, is_known, shown_day, takes_out, with_instant}
+use Rattle.ics_event.specs.declared.event.Event.{Event}
+use Rattle.ics_listing.specs.FileClocks.{day_of}
+use Rattle.ics_listing.specs.StartTimes.{date_only}
+use Rattle.ics_starts.specs.Inner.ByLocal.{count_in, exdate_locals, local_in, place_in, AreKnown}
+use Rattle.ics_starts.specs.declared.by_local.Places.{Places}
+use Rattle.ics_starts.specs.Exclusions.{excludes, excludes_by, excludes_time, is_among, is_day_in, is_excluded, is_known, shown_day, takes_out, with_instant}
 use Rattle.ics_starts.specs.FileZones.{clocks_in, is_early, is_past}
 use Rattle.ics_starts.specs.Found.{counts}
 use Rattle.ics_starts.proofs.InstantLemmas.{instant-near, near-clock}
@@ -44,11 +53,10 @@ pub any-at : {X : Type 0} (test : X → Bool) (xs : List X) (k : ℕ) (x : X) �
 any-at test xs k x l is e =
     in-any test (get_or xs k x) xs (ap test (sym is) ∙ e) (in-contains (get_or xs k x) xs (Contains-get_or xs k x l))
 
--- what implies the first of two implies it of both
-pub or-more : (a b c : Bool) → (a ≡ true → b ≡ true) → (a || c) ≡ true → (b || c) ≡ true
-or-more true b c h e = rw (h refl) refl
-or-more false true c h e = refl
-or-more false false c h e = e
+-- what each of two implies, one of the two does
+pub or-either : (a b c : Bool) → (a ≡ true → c ≡ true) → (b ≡ true → c ≡ true) → (a || b) ≡ true → c ≡ true
+or-either true b c f g e = f refl
+or-either false b c f g e = g e
 
 -- One more instant.
 or-moved : (a b c : Bool) → ((a || (b || false)) || c) ≡ ((a || c) || b)
@@ -95,6 +103,71 @@ unequal-among xs a b out there = by (int_eq a b) refl
     by : (same : Bool) → int_eq a b ≡ same → same ≡ false
     by true e = let f : true ≡ false = sym there ∙ (ap (is_among xs) (sym (equal-true a b e)) ∙ out) in absurd cc
     by false e = refl
+
+-- the midnight of a date is less than a day before its times
+under-date : (s : Stamp) → (stamp_seconds (Date (day_of s)) ≤ℤ stamp_seconds s) × (stamp_seconds s <ℤ (stamp_seconds (Date (day_of s)) +ℤ whole_days 1))
+under-date (Date day) = (omega (arith, ints), omega (arith, ints))
+under-date (Floating local) = (omega (arith, ints), omega (arith, ints, local.second_in))
+under-date (Utc local) = (omega (arith, ints), omega (arith, ints, local.second_in))
+under-date (Zoned local) = (omega (arith, ints), omega (arith, ints, local.second_in))
+
+-- what takes out a start has a local less than four days from it
+module _ (zones : FileZones) (t : ℤ) where
+  abbrev is-nearby : ℤ → Type 0
+  is-nearby local = ((t -ℤ whole_days 4) ≤ℤ local) × (local <ℤ (t +ℤ whole_days 4))
+
+  by-instant : (time : Time) → int_eq (instant (clocks_in zones) time) t ≡ true → is-nearby (stamp_seconds time.stamp)
+  by-instant time e =
+      let at = equal-true (instant (clocks_in zones) time) t e in
+      let near = instant-near zones time in (omega (arith, ints, at, near), omega (arith, ints, at, near))
+
+  by-date : (exdate : Time) → int_eq (instant (clocks_in zones) (date_only exdate)) t ≡ true → is-nearby (stamp_seconds exdate.stamp)
+  by-date exdate e =
+      let at = equal-true (instant (clocks_in zones) (date_only exdate)) t e in
+      let near = instant-near zones (date_only exdate) in
+      let under = under-date exdate.stamp in (omega (arith, ints, at, near, under.0), omega (arith, ints, at, near, under.1))
+
+  by-day : (first : Time) (day : ℤ) → int_eq day (shown_day (clock_of (clocks_in zones) first) t) ≡ true → is-nearby (day *ℤ pos 86_400)
+  by-day first day e =
+      let clock = clock_of (clocks_in zones) first in
+      let shown = equal-true day (shown_day clock t) e in
+      let off = (near-clock zones first.zone first.stamp).offset t in
+      let under = day-under (t +ℤ clock.offset t) (shown_day clock t) refl in
+      (omega (arith, ints, shown, off.0, off.1, under.0, under.1), omega (arith, ints, shown, off.0, off.1, under.0, under.1))
+
+  by-time : (first exdate : Time) (s : Stamp) → exdate.stamp ≡ s → excludes_time (clocks_in zones) first exdate s t ≡ true
+      → is-nearby (stamp_seconds exdate.stamp)
+  by-time first exdate (Date day) is e = subst (λ (x : Stamp). is-nearby (stamp_seconds x)) (sym is) (by-day first day e)
+  by-time first exdate _ is e = by-instant exdate e
+
+  nearby : (first exdate : Time) (s : Stamp) → excludes_by (clocks_in zones) first s exdate t ≡ true → is-nearby (stamp_seconds exdate.stamp)
+  nearby first exdate (Date day) e = by-date exdate e
+  nearby first exdate _ e = by-time first exdate exdate.stamp refl e
+
+-- an EXDATE at one of some places takes out a start
+pub record IsTakenAt (clocks : Clocks) (event : Event) (places : Places) (t : ℤ) : Type 0 where
+  pub k : ℕ
+  pub within : k < count_in places
+  pub exdate : Time
+  pub there : slice_get event.exdates (place_in places k) ≡ Some exdate
+  pub takes : excludes clocks event.start exdate t ≡ true
+
+module _ (event : Event) (places : Places) {from to : ℤ} {running : List ℤ} (near : AreKnown (exdate_locals event) from running to places) where
+  -- one of the places is that of an EXDATE
+  pub exdate-there : {k : ℕ} → k < count_in places → place_in places k < length event.exdates
+  exdate-there {k = k} l = subst (λ n. place_in places k < n) (length-map event.exdates local_in) (near.within k l)
+
+  -- what takes out a start that is known is among the EXDATEs at them: its local is near the start
+  pub taken-near : (zones : FileZones) {t : ℤ} → is_known from running t ≡ true → t <ℤ to → is_excluded (clocks_in zones) event t ≡ true
+      → IsTakenAt (clocks_in zones) event places t
+  taken-near zones {t = t} known early out =
+      let any = Any-from_list_any (λ exdate. excludes (clocks_in zones) event.start exdate t) event.exdates out in
+      let close = nearby zones t event.start any.1 event.start.stamp any.4 in
+      let there : slice_get event.exdates any.0 ≡ Some any.1 =
+      slice_get_read event.exdates (length event.exdates) any.0 any.1 refl any.2 (sym any.3) in
+      let among = near.all t known early any.0 (local_in any.1) (slice_get-map local_in event.exdates any.0 ∙ ap (option_map local_in) there)
+      close.0 close.1 in
+      record { k = among.k; within = among.within; exdate = any.1; there = ap (slice_get event.exdates) among.is ∙ there; takes = any.4 }
 
 -- a time that does not count is at no instant that is known
 uncounted-false : (zones : FileZones) (w : Window) (from : ℤ) (running : List ℤ) (time : Time) (t : ℤ) → is_known from running t ≡ true → t <ℤ w.to

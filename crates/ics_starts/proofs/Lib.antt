@@ -17,6 +17,7 @@ pub mod UntilLemmas
 pub mod EntryLemmas
 mod FindLemmas
 mod KeptLemmas
+mod NearLemmas
 pub mod ZoneLemmas
 pub mod PassedLemmas
 pub mod RemovedLemmas
@@ -26,3 +27,4 @@ pub mod OverLemmas
 pub mod SameLemmas
 pub mod BeginLemmas
 pub mod BegunLemmas
+mod ByLocalLemmas

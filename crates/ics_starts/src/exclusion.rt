@@ -3,6 +3,7 @@ ghost use Rattle.std.specs.Prelude.{◌≡◌, ◌<ℤ◌, ◌≤ℤ◌, ◌+ℤ
 ghost use Rattle.std.specs.List.Sorted.{IsSorted};
 ghost use Rattle.std.specs.Ordering.{int_cmp};
 ghost use Rattle.ics_starts.specs.Clocks.{clock_of, instant};
+ghost use Rattle.ics_starts.specs.Inner.ByLocal.{HasDates};
 ghost use Rattle.ics_starts.specs.Inner.ClockStretches.{AreKnown};
 ghost use Rattle.ics_starts.specs.Exclusions.{excludes, is_among, is_excluded, is_known, shown_day, takes_out, with_instant};
 ghost use Rattle.ics_starts.specs.FileZones.{clocks_in, IsOwnEvent, IsTimeOf};
@@ -10,6 +11,7 @@ ghost use Rattle.ics_starts.specs.Found.{counts};
 ghost use Rattle.ics_fields.specs.Locals.{day_of_local, midnight, whole_days};
 ghost use Rattle.ics_listing.specs.WindowBounds.{window_last, occurrence_first};
 
+use crate::by_local::{DatesByLocal, near_exdates, or_all};
 use crate::clock_stretch::ClockStretches;
 use crate::instants::is_at;
 use crate::listed::counted;
@@ -54,23 +56,27 @@ impl Exclusions {
         window: &Window,
         from: Moment,
         running: Vec<Moment>,
+        dates: &Option<Box<DatesByLocal>>,
     ) -> Result<Exclusions, AllocError>
         requires event { IsOwnEvent zones event.now }
         requires known { AreKnown (clocks_in zones) known.old }
         requires order { IsSorted int_cmp running.items }
+        requires dates { HasDates event.now dates.now }
         ensures { IfOk result (λ exclusions. AreExclusions (clocks_in zones.entry) event.now window.now
             exclusions.from exclusions.running.items exclusions.instants.items exclusions.days.items) }
     {
         let mut instants = Vec::new(alloc);
         let mut days = Vec::new(alloc);
-        for exdate in &event.exdates {
+        let given = near_exdates(alloc, dates, event, from, &running, window.to)?;
+        let near = or_all(&given, event.exdates.len());
+        for k in 0..near.count() {
             push_exdate(
                 &mut instants,
                 &mut days,
                 zones,
                 known,
                 event.start,
-                *exdate,
+                event.exdates[near.at(k)],
                 window,
                 from,
                 &running,

@@ -1,6 +1,7 @@
 //! The recurrence set of one event: the starts that its rule and its RDATEs give and its EXDATEs leave, each with its finish.
 #![tactic(auto)]
 
+mod by_local;
 mod clock_stretch;
 mod ends;
 mod exclusion;

@@ -6,6 +6,7 @@ ghost use Rattle.std.specs.Ordering.{int_cmp};
 ghost use Rattle.ics_event.specs.Event.{IsRdate, IsSpan};
 ghost use Rattle.ics_fields.specs.Locals.{whole_days};
 ghost use Rattle.ics_starts.specs.Clocks.{instant};
+ghost use Rattle.ics_starts.specs.Inner.ByLocal.{count_in, place_in, AreCounting, AreUp, HasDates};
 ghost use Rattle.ics_starts.specs.Inner.ClockStretches.{AreKnown};
 ghost use Rattle.ics_starts.specs.Exclusions.{is_among};
 ghost use Rattle.ics_starts.specs.Found.{begins_at, counts, is_between, is_over, listed_from, span_local, AreRunning};
@@ -14,7 +15,9 @@ ghost use Rattle.ics_starts.specs.Starts.{given_by};
 ghost use Rattle.ics_starts.specs.FileZones.{clocks_in, IsOwnEvent, IsTimeOf};
 ghost use Rattle.ics_listing.specs.StartTimes.{time_of};
 ghost use Rattle.ics_listing.specs.WindowBounds.{lasts_most, occurrence_first};
+ghost use Rattle.ics_zone.specs.Seconds.{IsMoment};
 
+use crate::by_local::{DatesByLocal, Places, near_rdates, near_spans, next_rdates, or_all};
 use crate::clock_stretch::{ClockStretches, instant_by};
 use crate::exclusion::is_among;
 use crate::instants::{TWO_DAYS, instant, is_early, is_outside};
@@ -27,11 +30,14 @@ use std::alloc::{AllocError, Global};
 
 const DAY: i64 = 86_400;
 
+/// A PERIOD whose locals are so many seconds before an instant has ended by then in every zone.
+const OVER: i64 = 6 * DAY;
+
 /// So many instants or fewer are a few, which are looked at one by one.
 const FEW: usize = 16;
 
 /// The local at which a PERIOD that begins at a time is to end, if each day has 86,400 seconds.
-fn span_local(start: Time, length: Length) -> Moment
+pub(crate) fn span_local(start: Time, length: Length) -> Moment
     requires { IsSpan length }
     ensures { result ≡ span_local start length }
 {
@@ -50,7 +56,7 @@ fn is_over(start: Time, length: Length, window: &Window) -> bool
     requires { IsSpan length }
     ensures { result ≡ is_over window.now start length }
 {
-    let by = window.from - 6 * DAY;
+    let by = window.from - OVER;
     local_of(start.stamp).seconds() <= by && span_local(start, length) <= by
 }
 
@@ -96,20 +102,24 @@ pub(crate) fn running(
     event: &Event,
     window: &Window,
     from: Moment,
+    dates: &Option<Box<DatesByLocal>>,
 ) -> Result<Vec<Moment>, AllocError>
     requires event { IsOwnEvent zones event.now }
     requires known { AreKnown (clocks_in zones) known.old }
+    requires soon { from ≤ℤ window.now.to }
+    requires dates { HasDates event.now dates.now }
     ensures known { AreKnown (clocks_in zones.entry) known.new }
     ensures order { IfOk result (λ running. IsSorted int_cmp running.items) }
     ensures are { IfOk result (λ running. AreRunning (clocks_in zones.entry) window.now event.now from running.items) }
 {
     let mut running = Vec::new(alloc);
-    for rdate in &event.rdates {
+    let near = near_spans(dates, event, window.from - OVER, from + TWO_DAYS);
+    for k in 0..near.count() {
         push_running(
             &mut running,
             zones,
             known,
-            given_by(event.start, *rdate),
+            given_by(event.start, event.rdates[near.at(k)]),
             window,
             from,
         )?;
@@ -205,6 +215,7 @@ pub(crate) fn counted(
 
 /// Adds the starts that the RDATEs of an event give and that count, from an instant on.
 pub(crate) fn push_listed(
+    alloc: Global,
     starts: &mut Vec<Start>,
     zones: FileZones<'_>,
     known: &mut ClockStretches,
@@ -212,17 +223,52 @@ pub(crate) fn push_listed(
     window: &Window,
     from: Moment,
     running: &[Moment],
+    dates: &Option<Box<DatesByLocal>>,
 ) -> Result<(), AllocError>
     requires event { IsOwnEvent zones event.now }
     requires known { AreKnown (clocks_in zones) known.old }
     requires order { IsSorted int_cmp running.now }
     requires running { AreRunning (clocks_in zones) window.now event.now from running.now }
+    requires soon { from <ℤ window.now.to }
+    requires dates { HasDates event.now dates.now }
     ensures known { AreKnown (clocks_in zones.entry) known.new }
     ensures starts { IfOk result (λ _. starts.new.items
         ≡ starts.old.items ++ listed_from (clocks_in zones.entry) window.now from event.now 0 event.now.rdates) }
 {
-    for (place, rdate) in event.rdates.iter().enumerate() {
-        let given = given_by(event.start, *rdate);
+    let given = near_rdates(alloc, dates, event, from, running, window.to)?;
+    let near = or_all(&given, event.rdates.len());
+    push_at(starts, zones, known, event, window, from, running, near)
+}
+
+/// Adds those of the values at some places in order, which are all that count.
+fn push_at(
+    starts: &mut Vec<Start>,
+    zones: FileZones<'_>,
+    known: &mut ClockStretches,
+    event: &Event,
+    window: &Window,
+    from: Moment,
+    running: &[Moment],
+    near: Places<'_>,
+) -> Result<(), AllocError>
+    requires event { IsOwnEvent zones event.now }
+    requires known { AreKnown (clocks_in zones) known.old }
+    requires order { IsSorted int_cmp running.now }
+    requires running { AreRunning (clocks_in zones) window.now event.now from running.now }
+    requires up { AreUp (count_in near) (place_in near) }
+    requires counting { AreCounting (clocks_in zones) window.now event.now from near }
+    ensures known { AreKnown (clocks_in zones.entry) known.new }
+    ensures starts { IfOk result (λ _. starts.new.items
+        ≡ starts.old.items ++ listed_from (clocks_in zones.entry) window.now from event.now 0 event.now.rdates) }
+{
+    let mut next = 0;
+    for k in 0..near.count() {
+        let place = near.at(k);
+        if place < next {
+            continue;
+        }
+        next = place + 1;
+        let given = given_by(event.start, event.rdates[place]);
         let Some(moment) = counted(zones, known, time_of(given), window, from, running) else {
             continue;
         };
@@ -236,13 +282,21 @@ pub(crate) fn push_listed(
 }
 
 /// An instant that is not after the first at which DTSTART or an RDATE starts an event, from another on.
-pub(crate) fn listed_again(zones: FileZones<'_>, event: &Event, from: Moment) -> Moment
-    requires { IsOwnEvent zones event.now }
+pub(crate) fn listed_again(
+    zones: FileZones<'_>,
+    event: &Event,
+    dates: &Option<Box<DatesByLocal>>,
+    from: Moment,
+) -> Moment
+    requires event { IsOwnEvent zones event.now }
+    requires dates { HasDates event.now dates.now }
+    requires from { IsMoment from }
     ensures { AreListedAgain (clocks_in zones.entry) event.now from result }
 {
+    let near = next_rdates(dates, event, from);
     let mut least = lesser_again(zones, from, Moment::MAX, event.start);
-    for rdate in &event.rdates {
-        let given = given_by(event.start, *rdate);
+    for k in 0..near.count() {
+        let given = given_by(event.start, event.rdates[near.at(k)]);
         least = lesser_again(zones, from, least, time_of(given));
     }
     least
@@ -275,7 +329,7 @@ pub(crate) fn lesser_past(end: Moment, least: Moment, moment: Moment) -> Moment
 /// The time or period at which a value of an RDATE starts an event with this DTSTART. If the event has
 /// dates, a value of any form means its date. Else a date means that date at DTSTART's time of day, in
 /// DTSTART's zone.
-fn given_by(first: Time, rdate: Rdate) -> Rdate
+pub(crate) fn given_by(first: Time, rdate: Rdate) -> Rdate
     ensures { result ≡ given_by first rdate }
 {
     match (first.stamp, rdate) {

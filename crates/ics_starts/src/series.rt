@@ -1,5 +1,5 @@
 //! The occurrences of one event that meet a window, found one by one.
-ghost use Rattle.std.specs.Prelude.{◌≡◌, ◌<◌, ◌≤ℤ◌, ◌-ℤ◌, ℤ, pos, false, is_some, slice_get, true, All, IfOk, IfSome, List, MatchOption, None, Some};
+ghost use Rattle.std.specs.Prelude.{◌≡◌, ◌<◌, ◌<ℤ◌, ◌≤ℤ◌, ◌-ℤ◌, ℤ, pos, false, is_some, slice_get, true, All, IfOk, IfSome, List, MatchOption, None, Some};
 ghost use Rattle.std.specs.List.Sorted.{IsSorted};
 ghost use Rattle.std.specs.Ordering.{int_cmp};
 ghost use Rattle.ics_event.specs.Event.{IsLasting};
@@ -12,6 +12,7 @@ ghost use Rattle.ics_starts.specs.Exclusions.{is_excluded, AreExclusions};
 ghost use Rattle.ics_listing.specs.StartOrder.{moment_cmp};
 ghost use Rattle.ics_listing.specs.StartTimes.{local_of};
 ghost use Rattle.ics_starts.specs.Clocks.{clock_of, AreSpansOf, IsStretched};
+ghost use Rattle.ics_starts.specs.Inner.ByLocal.{dates-prop, HasDates};
 ghost use Rattle.ics_starts.specs.Inner.ClockStretches.{AreKnown};
 ghost use Rattle.ics_starts.specs.Finish.{AreLasting};
 ghost use Rattle.ics_starts.specs.Found.{counts_from, first_met, AreRunning, IsStartIn};
@@ -33,6 +34,7 @@ ghost use Rattle.ics_starts.specs.Starts.{recurrence_of};
 ghost use Rattle.ics_listing.specs.WindowBounds.{lasts_most, occurrence_first};
 ghost use Rattle.ics_listing.specs.declared.start.Start.{Start};
 
+use crate::by_local::DatesByLocal;
 use crate::clock_stretch::ClockStretches;
 use crate::ends::Ends;
 use crate::exclusion::{Exclusions, is_excluded};
@@ -71,6 +73,8 @@ pub struct Series<'a> {
     // The starts by RDATEs and, if there is no rule, the one at DTSTART.
     listed: ListedStarts,
     ends: Ends,
+    // What tells the EXDATEs and RDATEs near a window, once the series is begun again.
+    dates: Option<Box<DatesByLocal>>,
     ghost first_is: { IfSome first (IsFirstGiven (clocks_in zones) window event.now since) } by { first-given-prop (clocks_in zones) window event.now since
         first },
     ghost own: { IsOwnEvent zones event.now } by { own-event-prop zones event.now },
@@ -78,6 +82,7 @@ pub struct Series<'a> {
         exclusions.days.items } by { taken-out-prop (clocks_in zones) event.now window exclusions.from exclusions.running.items exclusions.instants.items
             exclusions.days.items },
     ghost ends_are: { AreSpansOf (clock_of (clocks_in zones) event.now.start) ends.spans },
+    ghost dates_are: { HasDates event.now dates } by { dates-prop event.now dates },
     ghost known: { AreStartsIn zones (left rule_starts listed) } by { starts-in-prop zones (left rule_starts listed) },
     // A start that the rule hides may come to light.
     ghost listed_known: { AreStartsIn zones (listed_left listed) } by { starts-in-prop zones (listed_left listed) },
@@ -102,10 +107,13 @@ fn listed_apart(
     window: &Window,
     from: Moment,
     running: &[Moment],
+    dates: &Option<Box<DatesByLocal>>,
 ) -> Result<Vec<Start>, AllocError>
     requires event { IsOwnEvent zones event.now }
     requires known { AreKnown (clocks_in zones) known.old }
+    requires dates { HasDates event.now dates.now }
     requires from { from ≡ counts_from (clocks_in zones) window.now event.now }
+    requires soon { from <ℤ window.now.to }
     requires order { IsSorted int_cmp running.now }
     requires running { AreRunning (clocks_in zones) window.now event.now from running.now }
     ensures known { AreKnown (clocks_in zones.entry) known.new }
@@ -115,7 +123,17 @@ fn listed_apart(
     if event.rule.is_none() {
         starts.push(start_at(zones, event, local_of(event.start.stamp)))?;
     }
-    push_listed(&mut starts, zones, known, event, window, from, running)?;
+    push_listed(
+        alloc,
+        &mut starts,
+        zones,
+        known,
+        event,
+        window,
+        from,
+        running,
+        dates,
+    )?;
     Ok(starts)
 }
 
@@ -437,10 +455,15 @@ impl<'a> Series<'a> {
     {
         let met = first_met(zones, event, &window);
         let from = counts_from(met);
+        let dates = None;
         let mut known = ClockStretches::none();
-        let running = running(alloc, zones, &mut known, event, &window, from)?;
-        let listed = listed_apart(alloc, zones, &mut known, event, &window, from, &running)?;
-        let exclusions = Exclusions::new(alloc, zones, &mut known, event, &window, from, running)?;
+        let running = running(alloc, zones, &mut known, event, &window, from, &dates)?;
+        let listed = listed_apart(
+            alloc, zones, &mut known, event, &window, from, &running, &dates,
+        )?;
+        let exclusions = Exclusions::new(
+            alloc, zones, &mut known, event, &window, from, running, &dates,
+        )?;
         let rule_starts = starts_by_rule(
             alloc, zones, event, window, since, met, &listed, mark, keeps,
         )?;
@@ -455,6 +478,7 @@ impl<'a> Series<'a> {
             rule_starts,
             listed: ListedStarts::new(alloc, listed)?,
             ends: Ends::new(),
+            dates,
         })
     }
 
@@ -479,12 +503,18 @@ impl<'a> Series<'a> {
         ensures sources { OnOk result (series_sources self.new ≡ source_of (clocks_in zones.entry) event.entry.now window since) }
         ensures begun { OnOk result (MatchOption self.new.rule_starts (Unit {0}) (λ s. IsBegun s.rule s.from s.cursor)) }
     {
+        self.place_dates(alloc)?;
         let met = first_met(zones, event, &window);
         let from = counts_from(met);
         let mut known = ClockStretches::none();
-        let running = running(alloc, zones, &mut known, event, &window, from)?;
-        let listed = listed_apart(alloc, zones, &mut known, event, &window, from, &running)?;
-        let exclusions = Exclusions::new(alloc, zones, &mut known, event, &window, from, running)?;
+        let dates = &self.dates;
+        let running = running(alloc, zones, &mut known, event, &window, from, dates)?;
+        let listed = listed_apart(
+            alloc, zones, &mut known, event, &window, from, &running, dates,
+        )?;
+        let exclusions = Exclusions::new(
+            alloc, zones, &mut known, event, &window, from, running, dates,
+        )?;
         let begin = begin_of_rule(zones, event, &window, since, met, &listed);
         let starts = ListedStarts::new(alloc, listed)?;
         begin_again(
@@ -505,6 +535,16 @@ impl<'a> Series<'a> {
         self.replaced = replaced;
         self.listed = starts;
         self.ends = Ends::new();
+        Ok(())
+    }
+
+    /// Puts the places of the EXDATEs and RDATEs of its event in the order of their locals, unless they stand in it or are few.
+    fn place_dates(&mut self, alloc: Global) -> Result<(), AllocError>
+        ensures { self.new.event ≡ self.old.event }
+    {
+        if self.dates.is_none() {
+            self.dates = DatesByLocal::new(alloc, self.event)?;
+        }
         Ok(())
     }
 
@@ -590,7 +630,7 @@ impl<'a> Series<'a> {
         ensures to { IsQuietTo (clocks_in self.now.zones) self.now.event.now self.now.window self.now.since result.to }
         ensures mark { IsMarkOf self.now.event.now result.mark }
     {
-        let listed = listed_again(self.zones, self.event, self.window.to);
+        let listed = listed_again(self.zones, self.event, &self.dates, self.window.to);
         let quiet = rule_quiet(&self.rule_starts);
         Quiet {
             to: listed.min(quiet.to),

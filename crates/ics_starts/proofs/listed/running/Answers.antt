@@ -1,17 +1,21 @@
-use Rattle.std.proofs.Common.{◌≡◌, ◌≤◌, Some, List, length, refl, sym, ◌∙◌, ap, subst, arith, slice_get, int_eq}
-use Rattle.std.specs.List.{list_any}
+use Rattle.std.proofs.Common.{◌≡◌, ◌<◌, ◌<ℤ◌, ◌||◌, ℤ, Some, inl, inr, ⊎_elim, refl, sym, ◌∙◌, ap, subst, arith, slice_get, int_eq}
+use Rattle.std.proofs.lemmas.Bool.{cases_lt, or_cases, or_left, or_right}
 use Rattle.std.proofs.lemmas.Int.{ints}
-use Rattle.std.proofs.lemmas.List.{take_all}
 use Rattle.std.proofs.lemmas.List.Sorted.{list_any-IsPermutation}
-use Rattle.std.proofs.lemmas.Option.{slice_get_read}
+use Rattle.std.proofs.lemmas.Map.Keys.{any_passes_from_place}
 use Rattle.ics_event.specs.declared.event.Event.{Event}
 use Rattle.ics_event.specs.Event.{IsRdate, Rdate}
 use Rattle.ics_listing.specs.declared.start.StartSource.TheVariants.{Listed}
+use Rattle.ics_listing.proofs.Cases.{some-same}
 use Rattle.ics_listing.proofs.StartOrderLemmas.{all-at}
 use Rattle.ics_listing.specs.StartTimes.{time_of}
+use Rattle.ics_period.proofs.Tests.{iff}
+use Rattle.ics_starts.specs.Exclusions.{is_among}
 use Rattle.ics_starts.specs.FileZones.{clocks_in, IsTimeOf}
-use Rattle.ics_starts.specs.Found.{begins_at}
+use Rattle.ics_starts.specs.Found.{begins_at, is_running}
+use Rattle.ics_starts.specs.Inner.ByLocal.{count_in, place_in}
 use Rattle.ics_starts.specs.Starts.{given_by}
+use Rattle.ics_starts.proofs.NearLemmas.{running-near, span-near, value-at}
 use Rattle.ics_starts.proofs.StartSourceLemmas.{given-value}
 use Rattle.ics_starts.proofs.ZoneLemmas.{given-time}
 use Rattle.ics_starts.proofs.listed.running.Goals as goal
@@ -19,36 +23,82 @@ use Rattle.ics_starts.proofs.listed.running.Goals as goal
 pub push_running-requires-clause-value : goal.push_running-requires-clause-value
 push_running-requires-clause-value c =
     let event = c.args.event.now in
-    let k = c.loop-rdate.rdate-index in
-    let r = c.rdate-item.result in
-    let items : c.deref-rdate-items.result.now ≡ event.rdates = c.deref-rdate-items.ensures.value ∙ ap (λ (v : Event). v.rdates) c.event.view_is in
-    let there : slice_get event.rdates k ≡ Some r =
-    subst (λ (xs : List Rdate). slice_get xs k ≡ Some r) items
-    (slice_get_read c.deref-rdate-items.result.now (length c.deref-rdate-items.result.now) k r refl c.loop-rdate-test.true c.rdate-item.is) in
+    let near = c.near_spans-near.result in
+    let k = c.loop-k.k in
+    let r = c.index.result.now in
+    let below : k < count_in near = subst (λ n. k < n) c.count-k-end.ensures c.loop-k-test.true in
+    let there : slice_get event.rdates (place_in near k) ≡ Some r =
+    value-at (ap (λ (v : Event). v.rdates) c.event.view_is) c.at.ensures (c.near_spans-near.ensures.within k below) c.index.ensures in
     let given : c.given_by.result ≡ given_by event.start r = c.given_by.ensures ∙ ap (λ (v : Event). given_by v.start r) c.event.view_is in
     subst IsRdate (sym given)
-    (given-value event.start event.start.stamp r c.requires.event.is_event.start (all-at IsRdate event.rdates k r c.requires.event.is_event.rdates there))
+    (given-value event.start event.start.stamp r c.requires.event.is_event.start
+    (all-at IsRdate event.rdates (place_in near k) r c.requires.event.is_event.rdates there))
 
 pub push_running-requires-clause-time : goal.push_running-requires-clause-time
 push_running-requires-clause-time c =
     let event = c.args.event.now in
-    let k = c.loop-rdate.rdate-index in
-    let r = c.rdate-item.result in
-    let items : c.deref-rdate-items.result.now ≡ event.rdates = c.deref-rdate-items.ensures.value ∙ ap (λ (v : Event). v.rdates) c.event.view_is in
-    let there : slice_get event.rdates k ≡ Some r =
-    subst (λ (xs : List Rdate). slice_get xs k ≡ Some r) items
-    (slice_get_read c.deref-rdate-items.result.now (length c.deref-rdate-items.result.now) k r refl c.loop-rdate-test.true c.rdate-item.is) in
+    let near = c.near_spans-near.result in
+    let k = c.loop-k.k in
+    let r = c.index.result.now in
+    let below : k < count_in near = subst (λ n. k < n) c.count-k-end.ensures c.loop-k-test.true in
+    let there : slice_get event.rdates (place_in near k) ≡ Some r =
+    value-at (ap (λ (v : Event). v.rdates) c.event.view_is) c.at.ensures (c.near_spans-near.ensures.within k below) c.index.ensures in
     let given : c.given_by.result ≡ given_by event.start r = c.given_by.ensures ∙ ap (λ (v : Event). given_by v.start r) c.event.view_is in
     subst (λ v. IsTimeOf c.args.zones.zones.now (time_of v)) (sym given)
-    (given-time c.args.zones event (Listed k) (given_by event.start r) c.requires.event (r, there, refl))
+    (given-time c.args.zones event (Listed (place_in near k)) (given_by event.start r) c.requires.event (r, there, refl))
+
+pub loop-k-preserved : goal.loop-k-preserved
+loop-k-preserved c =
+    let event = c.args.event.now in
+    let clocks = clocks_in c.args.zones in
+    let w = c.args.window.now in
+    let near = c.near_spans-near.result in
+    let k = c.loop-k.k in
+    let r = c.index.result.now in
+    let below : k < count_in near = subst (λ n. k < n) c.count-k-end.ensures c.loop-k-test.true in
+    let there : slice_get event.rdates (place_in near k) ≡ Some r =
+    value-at (ap (λ (v : Event). v.rdates) c.event.view_is) c.at.ensures (c.near_spans-near.ensures.within k below) c.index.ensures in
+    let given : c.given_by.result ≡ given_by event.start r = c.given_by.ensures ∙ ap (λ (v : Event). given_by v.start r) c.event.view_is in
+    let before = c.loop-k.running.items in
+    let more : (t : ℤ) → t <ℤ c.args.from → is_among c.push_running.new.running.items t ≡ (is_among before t || begins_at clocks w t (given_by event.start r)) =
+    λ t early. c.in_ok-push_running.ensures.running t (omega (arith, ints, early, c.ranges.from))
+    ∙ ap (λ v. is_among before t || begins_at clocks w t v) given in
+    record {
+      known = c.push_running.ensures.known;
+      only = λ t early e.
+          let less : t <ℤ c.args.from = omega (arith, ints, early, c.ranges.from) in
+          ⊎_elim (λ a. c.loop-k.invariant.only t early a)
+          (λ b. any_passes_from_place (λ x. begins_at clocks w t (given_by event.start x)) event.rdates (place_in near k) r there b)
+          (or_cases (is_among before t) (begins_at clocks w t (given_by event.start r)) (sym (more t less) ∙ e));
+      all = λ t j rdate early l stands e.
+          let less : t <ℤ c.args.from = omega (arith, ints, early, c.ranges.from) in
+          elim (cases_lt j k) [
+            | inl behind ↦
+                more t less
+                ∙ or_left (is_among before t) (begins_at clocks w t (given_by event.start r)) (c.loop-k.invariant.all t j rdate early behind stands e)
+            | inr on ↦
+                let here : k ≡ j = omega (arith, on, l) in
+                let same : r ≡ rdate = some-same r rdate (sym there ∙ (ap (λ n. slice_get event.rdates (place_in near n)) here ∙ stands)) in
+                more t less
+                ∙ or_right (is_among before t) (begins_at clocks w t (given_by event.start r))
+                (ap (λ (x : Rdate). begins_at clocks w t (given_by event.start x)) same ∙ e)
+          ];
+    }
 
 pub returns-clause-are : goal.returns-clause-are
 returns-clause-are c =
     let event = c.args.event.now in
-    let clocks = clocks_in c.args.zones in
-    let k = c.loop-rdate.rdate-index in
-    let items : c.deref-rdate-items.result.now ≡ event.rdates = c.deref-rdate-items.ensures.value ∙ ap (λ (v : Event). v.rdates) c.event.view_is in
-    let over : length event.rdates ≤ k = subst (λ (xs : List Rdate). length xs ≤ k) items c.loop-rdate-test.false in
-    λ t early. sym (list_any-IsPermutation (λ x. int_eq x t) c.loop-rdate.running.items c.sort_unstable.new.self.items c.sort_unstable.ensures.permutation)
-    ∙ (c.loop-rdate.invariant.are t (omega (arith, ints, early, c.ranges.from))
-    ∙ ap (λ (xs : List Rdate). list_any (λ r. begins_at clocks c.args.window.now t (given_by event.start r)) xs) (take_all k event.rdates over))
+    let w = c.args.window.now in
+    λ t early.
+    let less : t <ℤ c.args.from = omega (arith, ints, early, c.ranges.from) in
+    sym (list_any-IsPermutation (λ x. int_eq x t) c.loop-k.running.items c.sort_unstable.new.self.items c.sort_unstable.ensures.permutation)
+    ∙ iff (is_among c.loop-k.running.items t) (is_running (clocks_in c.args.zones) w event t)
+    (λ e. c.loop-k.invariant.only t (omega (arith, ints, early, c.ranges.from)) e)
+    (λ e.
+    let there = running-near (clocks_in c.args.zones) w t c.near_spans-near.ensures
+    (span-near c.args.zones w (omega (arith, ints, w.ordered, w.not_early, w.not_late), omega (arith, ints, c.ranges.from, c.requires.soon, w.not_late)) less)
+    e in
+    let over = c.loop-k-test.false in
+    let end = c.count-k-end.ensures in
+    c.loop-k.invariant.all t there.k there.rdate (omega (arith, ints, early, c.ranges.from)) (omega (arith, there.within, over, end)) there.stands
+    there.begins)

@@ -1,53 +1,105 @@
-use Rattle.std.proofs.Common.{◌≡◌, ◌+◌, ◌<◌, ◌≤◌, ◌||◌, ℤ, List, length, get_or, take, true, sym, ◌∙◌, ap, subst, w64, to_z, of_z}
-use Rattle.std.specs.List.{list_any}
-use Rattle.std.proofs.lemmas.List.{take_all}
-use Rattle.std.proofs.lemmas.List.Folds.{list_any_more}
+use Rattle.std.proofs.Common.{◌≡◌, ◌<◌, ◌||◌, ◌<ℤ◌, ℕ, ℤ, length, get_or, slice_get, true, sym, ◌∙◌, ap, subst, ⊎_elim, arith, w64, to_z, of_z}
+use Rattle.std.proofs.lemmas.Bool.{or_left, or_right}
+use Rattle.std.proofs.lemmas.Int.{ints}
+use Rattle.std.proofs.lemmas.List.{length-map}
+use Rattle.std.proofs.lemmas.Option.{get_or_from_slice_get}
 use Rattle.ics_event.specs.declared.event.Event.{Event}
-use Rattle.ics_event.specs.Event.{Time}
+use Rattle.ics_event.specs.Event.{IsTime, TimeBelow}
+use Rattle.ics_listing.proofs.Cases.{below-or-last}
+use Rattle.ics_period.proofs.Tests.{iff}
 use Rattle.ics_starts.specs.Clocks.{clock_of}
-use Rattle.ics_starts.specs.Exclusions.{excludes, is_known, takes_out}
+use Rattle.ics_starts.specs.Inner.ByLocal.{exdate_locals, local_in, place_in}
+use Rattle.ics_starts.specs.Exclusions.{excludes, is_excluded, is_known, takes_out}
 use Rattle.ics_starts.specs.FileZones.{clocks_in}
-use Rattle.ics_starts.proofs.ExclusionLemmas.{or-more, sorted-takes_out}
+use Rattle.ics_starts.proofs.ExclusionLemmas.{any-at, exdate-there, or-either, sorted-takes_out, taken-near}
 use Rattle.ics_starts.proofs.exclusion.Exclusions.new.Goals as goal
 
-pub loop-exdate-preserved : goal.loop-exdate-preserved
-loop-exdate-preserved c =
+-- there are as many locals as EXDATEs
+locals-counted : {inside event : Event} {n : ℕ} → inside ≡ event → n ≡ length inside.exdates → length (exdate_locals event) ≡ n
+locals-counted {event = event} is e = length-map event.exdates local_in ∙ sym (e ∙ ap (λ (v : Event). length v.exdates) is)
+
+pub index-requires : goal.index-requires
+index-requires c =
     let event = c.args.event.now in
+    let near = c.or_all-near.ensures (exdate_locals event) (to_z w64 (of_z w64 c.args.from)) c.deref.result.now
+    (to_z w64 (of_z w64 c.args.window.now.to)) (locals-counted c.event.view_is (grind (arith, c.len.ensures))) c.in_ok-given.ensures in
+    let there : c.at.result < length event.exdates =
+    subst (λ n. n < length event.exdates) (sym c.at.ensures)
+    (exdate-there event c.or_all-near.result near (subst (λ n. c.loop-k.k < n) c.count-k-end.ensures c.loop-k-test.true)) in
+    let items : length c.event.inside.exdates.items ≡ length event.exdates = ap (λ (v : Event). length v.exdates) c.event.view_is in
+    grind (arith, there, items)
+
+pub push_exdate-requires-clause-time : goal.push_exdate-requires-clause-time
+push_exdate-requires-clause-time c =
+    let event = c.args.event.now in
+    let near = c.or_all-near.ensures (exdate_locals event) (to_z w64 (of_z w64 c.args.from)) c.deref.result.now
+    (to_z w64 (of_z w64 c.args.window.now.to)) (locals-counted c.event.view_is (grind (arith, c.len.ensures))) c.in_ok-given.ensures in
+    let place = c.at.result in
+    let x = c.index.result.now in
+    let item : x ≡ get_or event.exdates place x = c.index.ensures ∙ ap (λ (v : Event). get_or v.exdates place x) c.event.view_is in
+    let there : place < length event.exdates =
+    subst (λ n. n < length event.exdates) (sym c.at.ensures)
+    (exdate-there event c.or_all-near.result near (subst (λ n. c.loop-k.k < n) c.count-k-end.ensures c.loop-k-test.true)) in
+    record {
+      is_time = subst IsTime (sym item) (c.requires.event.is_event.exdates place x there);
+      within = subst (TimeBelow (length c.args.zones.zones.now)) (sym item) (c.requires.event.below.exdates place x there);
+    }
+
+pub loop-k-preserved : goal.loop-k-preserved
+loop-k-preserved c =
+    let event = c.args.event.now in
+    let near = c.or_all-near.ensures (exdate_locals event) (to_z w64 (of_z w64 c.args.from)) c.deref.result.now
+    (to_z w64 (of_z w64 c.args.window.now.to)) (locals-counted c.event.view_is (grind (arith, c.len.ensures))) c.in_ok-given.ensures in
     let clocks = clocks_in c.args.zones in
-    let clock = clock_of clocks event.start in
-    let k = c.loop-exdate.exdate-index in
-    let x = c.exdate-item.result in
-    let items : c.deref-exdate-items.result.now ≡ event.exdates = c.deref-exdate-items.ensures.value ∙ ap (λ (v : Event). v.exdates) c.event.view_is in
-    let there : k < length event.exdates = subst (λ (xs : List Time). k < length xs) items c.loop-exdate-test.true in
-    let item : x ≡ get_or event.exdates k x = c.exdate-item.is ∙ ap (λ (xs : List Time). get_or xs k x) items in
-    let more : (t : ℤ) → (list_any (λ e. excludes clocks event.start e t) (take k event.exdates) || excludes clocks event.start x t)
-    ≡ list_any (λ e. excludes clocks event.start e t) (take (k + 1) event.exdates) =
-    λ t. ap (λ (y : Time). list_any (λ e. excludes clocks event.start e t) (take k event.exdates) || excludes clocks event.start y t) item
-    ∙ sym (list_any_more (λ e. excludes clocks event.start e t) event.exdates k x there) in
+    let places = c.or_all-near.result in
+    let place = c.at.result in
+    let x = c.index.result.now in
+    let before = λ (t : ℤ). takes_out (clock_of clocks event.start) c.loop-k.instants.items c.loop-k.days.items t in
+    let item : x ≡ get_or event.exdates place x = c.index.ensures ∙ ap (λ (v : Event). get_or v.exdates place x) c.event.view_is in
+    let there : place < length event.exdates =
+    subst (λ n. n < length event.exdates) (sym c.at.ensures)
+    (exdate-there event places near (subst (λ n. c.loop-k.k < n) c.count-k-end.ensures c.loop-k-test.true)) in
     record {
       known = c.push_exdate.ensures.known;
-      only = λ t out. sym (more t) ∙ or-more _ _ (excludes clocks event.start x t) (c.loop-exdate.invariant.only t)
-          (subst (λ (v : Event). (takes_out (clock_of clocks v.start) c.loop-exdate.instants.items c.loop-exdate.days.items t
+      only = λ t out. or-either (before t) (excludes clocks event.start x t) (is_excluded clocks event t) (c.loop-k.invariant.only t)
+          (any-at (λ e. excludes clocks event.start e t) event.exdates place x there item)
+          (subst (λ (v : Event). (takes_out (clock_of clocks v.start) c.loop-k.instants.items c.loop-k.days.items t
           || excludes clocks v.start x t) ≡ true) c.event.view_is (c.in_ok-push_exdate.ensures.only t (subst (λ (v : Event).
           takes_out (clock_of clocks v.start) c.push_exdate.new.instants.items c.push_exdate.new.days.items t ≡ true) (sym c.event.view_is) out)));
-      same = λ t known early.
+      seen = λ j exdate l here t known early out.
+          let same =
           subst (λ (v : Event). takes_out (clock_of clocks v.start) c.push_exdate.new.instants.items c.push_exdate.new.days.items t
-          ≡ (takes_out (clock_of clocks v.start) c.loop-exdate.instants.items c.loop-exdate.days.items t || excludes clocks v.start x t))
+          ≡ (takes_out (clock_of clocks v.start) c.loop-k.instants.items c.loop-k.days.items t || excludes clocks v.start x t))
           c.event.view_is (c.in_ok-push_exdate.ensures.same t
-          (ap (λ xs. is_known (to_z w64 (of_z w64 c.args.from)) xs t) c.deref.ensures.value ∙ known) early)
-          ∙ (ap (λ b. b || excludes clocks event.start x t) (c.loop-exdate.invariant.same t known early) ∙ more t);
+          (ap (λ xs. is_known (to_z w64 (of_z w64 c.args.from)) xs t) c.deref-in-loop-k.ensures.value ∙ known) early) in
+          same
+          ∙ ⊎_elim (λ b. or_left (before t) (excludes clocks event.start x t) (c.loop-k.invariant.seen j exdate b here t known early out))
+          (λ e.
+          let is : x ≡ exdate =
+          item ∙ get_or_from_slice_get event.exdates place exdate x
+          (ap (slice_get event.exdates) (c.at.ensures ∙ ap (place_in places) (sym e)) ∙ here) in
+          or_right (before t) (excludes clocks event.start x t) (ap (λ y. excludes clocks event.start y t) is ∙ out))
+          (below-or-last j c.loop-k.k (omega (arith, l)));
     }
 
 pub returns : goal.returns
 returns c =
     let event = c.args.event.now in
     let clocks = clocks_in c.args.zones in
-    let k = c.loop-exdate.exdate-index in
-    let items : c.deref-exdate-items.result.now ≡ event.exdates = c.deref-exdate-items.ensures.value ∙ ap (λ (v : Event). v.exdates) c.event.view_is in
-    let over : length event.exdates ≤ k = subst (λ (xs : List Time). length xs ≤ k) items c.loop-exdate-test.false in
+    let before = λ (t : ℤ). takes_out (clock_of clocks event.start) c.loop-k.instants.items c.loop-k.days.items t in
     let sorted = λ (t : ℤ). sorted-takes_out (clock_of clocks event.start) t c.sort_unstable.ensures.permutation c.sort_unstable-2.ensures.permutation in
-    let all = λ (t : ℤ). ap (λ (xs : List Time). list_any (λ e. excludes clocks event.start e t) xs) (take_all k event.exdates over) in
+    let near = c.or_all-near.ensures (exdate_locals event) (to_z w64 (of_z w64 c.args.from)) c.deref.result.now
+    (to_z w64 (of_z w64 c.args.window.now.to)) (locals-counted c.event.view_is (grind (arith, c.len.ensures))) c.in_ok-given.ensures in
+    let each : (t : ℤ) → is_known (to_z w64 (of_z w64 c.args.from)) c.args.running.items t ≡ true → t <ℤ c.args.window.now.to
+    → is_excluded clocks event t ≡ true → before t ≡ true =
+    λ t known early out.
+    let w = c.args.window.now in
+    let taken = taken-near event c.or_all-near.result near c.args.zones
+    (ap (λ xs. is_known (to_z w64 (of_z w64 c.args.from)) xs t) c.deref.ensures.value ∙ known)
+    (omega (arith, ints, early, w.not_early, w.ordered, w.not_late)) out in
+    c.loop-k.invariant.seen taken.k taken.exdate (omega (arith, taken.within, c.count-k-end.ensures, c.loop-k-test.false)) taken.there t known early
+    taken.takes in
     record {
-      only = λ t out. sym (all t) ∙ c.loop-exdate.invariant.only t (sym (sorted t) ∙ out);
-      same = λ t known early. sorted t ∙ (c.loop-exdate.invariant.same t known early ∙ all t);
+      only = λ t out. c.loop-k.invariant.only t (sym (sorted t) ∙ out);
+      same = λ t known early. sorted t ∙ iff (before t) (is_excluded clocks event t) (c.loop-k.invariant.only t) (each t known early);
     }

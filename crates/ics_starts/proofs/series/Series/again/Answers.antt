@@ -1,12 +1,14 @@
-use Rattle.std.proofs.Common.{◌≡◌, ◌∙◌, arith, subst, get_or, w64, to_z, of_z, SFits}
+use Rattle.std.proofs.Common.{Bor, ◌≡◌, ◌∙◌, ap, arith, subst, get_or, w64, to_z, of_z, SFits}
 use Rattle.std.proofs.lemmas.Int.{ints}
 use Rattle.std.proofs.lemmas.List.Elements.{Contains-get_or}
+use Rattle.ics_event.specs.declared.event.Event.{Event}
 use Rattle.ics_listing.specs.declared.start.Start.{Start}
 use Rattle.ics_listing.specs.KnownStarts.{listed_left}
 use Rattle.ics_listing.specs.Listing.{IsIn}
 use Rattle.ics_listing.proofs.ListingLemmas.{in-contains}
 use Rattle.ics_starts.specs.Clocks.{clock_of}
 use Rattle.ics_starts.specs.FileZones.{clocks_in}
+use Rattle.ics_starts.specs.Inner.ByLocal.{HasDates}
 use Rattle.ics_starts.specs.SeriesStarts.{given_of, left, listed_apart}
 use Rattle.ics_starts.proofs.BeginLemmas.{own-rule}
 use Rattle.ics_starts.proofs.BegunLemmas.{has-ruled, start-apart, start-in, starts-since}
@@ -24,8 +26,8 @@ begin_of_rule-begin-requires-clause-listed c =
 
 pub begin_again-requires-clause-rule : goal.begin_again-requires-clause-rule
 begin_again-requires-clause-rule c =
-    let s = c.args.self.now in
-    own-rule s.zones s.window _ s.rule_starts s.own_rule c.requires.same
+    let s = c.place_dates.new.self in
+    own-rule s.zones s.window _ s.rule_starts s.own_rule (ap (λ (e : Bor Event). e.now) c.place_dates.ensures ∙ c.requires.same)
 
 pub invariant_of-self : goal.invariant_of-self
 invariant_of-self c =
@@ -39,12 +41,15 @@ invariant_of-self c =
     let begin = rw (since, c.deref-2.ensures.value ∙ c.in_ok-listed.ensures.starts) at c.begin_of_rule-begin.ensures in
     let ruled = c.begin_again.ensures.from c.args.since (listed_apart clocks w event event.rule) begin in
     let starts = starts-since c.args.zones w event sound c.args.since (listed_left c.in_ok-starts.starts) firsts c.begin_again.new.rule ruled in
+    let same : c.place_dates.new.self.event.now ≡ event = ap (λ (e : Bor Event). e.now) c.place_dates.ensures ∙ c.requires.same in
+    let dates = subst (λ (v : Event). HasDates v c.place_dates.new.self.dates) same c.place_dates.new.self.dates_are in
     let listing = series-listing clocks w event c.args.since c.args.replaced.instants.items (left c.begin_again.new.rule c.in_ok-starts.starts) starts in
     record {
       first_is = tt;
       own = c.requires.own;
       taken_out = c.in_ok-exclusions.ensures;
       ends_are = c.new-3.ensures (clock_of clocks event.start);
+      dates_are = dates;
       known = λ s m. start-in c.args.zones w event c.requires.own s (starts.are s m);
       listed_known = λ s m. start-in c.args.zones w event c.requires.own s (start-apart c.args.zones w event event.rule s (firsts.are s m));
       ruled = rw since

@@ -43,6 +43,7 @@ invariant_of-result c =
       own = c.requires.own;
       taken_out = c.in_ok-exclusions.ensures;
       ends_are = c.new-3.ensures (clock_of clocks event.start);
+      dates_are = tt;
       known = λ s m. start-in c.args.zones w event c.requires.own s (starts.are s m);
       listed_known = λ s m. start-in c.args.zones w event c.requires.own s (start-apart c.args.zones w event event.rule s (firsts.are s m));
       ruled = rw since

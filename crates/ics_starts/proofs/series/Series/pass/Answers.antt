@@ -21,6 +21,7 @@ invariant_of-self c =
       own = s.own;
       taken_out = s.taken_out;
       ends_are = s.ends_are;
+      dates_are = s.dates_are;
       known = rest-of taken s.known;
       listed_known = λ t m. s.listed_known t (in-cut moment_cmp moment_total start t (listed_left s.listed) (subst (IsIn t) c.pass.ensures m));
       ruled = ruled-rest (clocks_in s.zones) s.window s.event.now s.since s.replaced.instants.items s.rule_starts c.pass_rule.new.rule

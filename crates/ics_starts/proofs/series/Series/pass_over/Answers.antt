@@ -55,6 +55,7 @@ invariant_of-self c =
       taken_out = s.taken_out;
       ends_are = subst (λ (v : Event). AreSpansOf (clock_of (clocks_in s.zones) v.start) c.over_to-over.new.self.spans) c.event.view_is
           c.over_to-over.ensures.spans;
+      dates_are = s.dates_are;
       known = k.known;
       listed_known = s.listed_known;
       ruled = k.ruled;

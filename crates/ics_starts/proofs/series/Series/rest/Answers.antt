@@ -8,6 +8,7 @@ invariant_of-self c =
       own = s.own;
       taken_out = s.taken_out;
       ends_are = s.ends_are;
+      dates_are = s.dates_are;
       known = s.known;
       listed_known = s.listed_known;
       ruled = s.ruled;

@@ -37,6 +37,7 @@ invariant_of-self c =
       own = s.own;
       taken_out = s.taken_out;
       ends_are = s.ends_are;
+      dates_are = s.dates_are;
       known = k.known;
       listed_known = s.listed_known;
       ruled = k.ruled;
