@@ -281,6 +281,7 @@ LEAP_MONDAY = [part('STANDARD', '00010101T000000', '-2359', '+2359', 'RRULE:FREQ
 LEAP_END = [part('STANDARD', '0001010%dT0000%02d' % (number + 1, number), '-2359', '+%02d00' % (number * 23), 'RRULE:FREQ=YEARLY;BYDAY=%s;BYSETPOS=366' % WEEK)
             for number in range(2)]
 LONG_AGO = 'RDATE;VALUE=DATE:' + ','.join('1000%02d%02d' % (month, day) for month in range(1, 11) for day in range(1, 21, 2))
+RARE = ','.join((datetime.date(1024, 1, 1) + datetime.timedelta(36 * number)).strftime('%Y%m%dT120000Z') for number in range(10_000))
 THIRTY = 'EXDATE;TZID=odd:' + ','.join('%04d0701T000000' % year for year in range(1600, 2200, 20))
 FAR = 'RDATE;TZID=odd:' + ','.join('%04d0701T120000' % year for year in range(2100, 8100, 150))
 # A month has one first Monday, and no week has two of these days.
@@ -535,6 +536,11 @@ ROWS = [
      lambda: rules(7, 'FREQ=SECONDLY;INTERVAL=25200;BYDAY=TU,WE,TH,FR,SA,SU;BYHOUR=0,7,14,21'), AGES[:3], 1, 32),
     ('77 rules of a second each two weeks on another weekday than its own, each day of ages',
      lambda: rules(77, 'FREQ=SECONDLY;INTERVAL=1209600;BYMONTHDAY=-31;BYDAY=TU,WE,TH,FR,SA,SU'), AGES[:3], 1, 32),
+    ('10,000 RDATEs of a thousand years, each day', lambda: once_in('10200701T120000Z', 'RDATE:' + RARE), ['1024-01-01', '366000d', '--every-day'], 1, 32),
+    ('10,000 RDATEs of a thousand years that EXDATEs remove, each day',
+     lambda: once_in('10200701T120000Z', 'RDATE:' + RARE, 'EXDATE:' + RARE), ['1024-01-01', '366000d', '--every-day'], 1, 32),
+    ('a monthly rule and 10,000 EXDATEs of a thousand years, each day',
+     lambda: once_in('10200701T120000Z', 'RRULE:FREQ=MONTHLY', 'EXDATE:' + RARE), ['1024-01-01', '366000d', '--every-day'], 1, 32),
     ('400,000 faulty events, --keep-going', lambda: faulty(400_000), [*DAY, '--keep-going'], 12, 256),
 ]
 
