@@ -65,12 +65,12 @@ wanted-all a b c d e = grind arith
 -- A series, and an instant before which no start by the rule gives an occurrence.
 module _ (s : Series) (to : ℤ) (first : IsFirstGiven (clocks_in s.zones) s.window s.event.now s.since to) where
   early-unwanted : (local : Local) → int_le to (instant (clocks_in s.zones) (time_at s.event.now.start local)) ≡ false
-      → wanted_by (clocks_in s.zones) s.window s.event.now s.since s.replaced.instants.items (start_at (clocks_in s.zones) s.event.now local) ≡ None
+      → wanted_by (clocks_in s.zones) s.window s.event.now s.since s.replaced (start_at (clocks_in s.zones) s.event.now local) ≡ None
   early-unwanted local early =
       let o = entry_from (clocks_in s.zones) s.event.now (At (time_at s.event.now.start local)) in
       let all = wanted-all (int_le s.since o.start) (is_met s.window o) (is_excluded (clocks_in s.zones) s.event.now o.start)
-      (is_among s.replaced.instants.items o.start) in
-      by-test (is_wanted (clocks_in s.zones) s.window s.event.now s.since s.replaced.instants.items o)
+      (is_among s.replaced o.start) in
+      by-test (is_wanted (clocks_in s.zones) s.window s.event.now s.since s.replaced o)
       (λ e. let late = true_int_le to (instant (clocks_in s.zones) (time_at s.event.now.start local)) (first local (all e)) in absurd cc)
       (λ e. ap (λ b. if b then Some o else None) e)
 
@@ -84,12 +84,12 @@ module _ (s : Series) (to : ℤ) (first : IsFirstGiven (clocks_in s.zones) s.win
       (subst (λ t. t <ℤ to) (λ i. moment_numbered (clocks_in (own.zones_are i)) (own.event_is i) n) past)
 
   unwanted : (t : Start) → IsIn t (listed_left s.listed) ⊎ ((n : ℕ) × (t ≡ start_at (clocks_in s.zones) s.event.now (local_numbered n)))
-      → int_le to t.moment ≡ false → wanted_by (clocks_in s.zones) s.window s.event.now s.since s.replaced.instants.items t ≡ None
+      → int_le to t.moment ≡ false → wanted_by (clocks_in s.zones) s.window s.event.now s.since s.replaced t ≡ None
   unwanted t from e =
       ⊎_elim
       (λ m. let late = true_int_le to t.moment (listed t m) in absurd cc)
       (λ by.
-      subst (λ (x : Start). wanted_by (clocks_in s.zones) s.window s.event.now s.since s.replaced.instants.items x ≡ None) (sym by.1)
+      subst (λ (x : Start). wanted_by (clocks_in s.zones) s.window s.event.now s.since s.replaced x ≡ None) (sym by.1)
       (early-unwanted s to first (local_numbered by.0) (subst (λ (x : Start). int_le to x.moment ≡ false) by.1 e)))
       from
 
@@ -110,11 +110,11 @@ amid-parts false y e = let no : true ≡ false = e in absurd cc
 -- By the rule nothing is given from one instant on and before another, and no start that is known is there.
 module _ (s : Series) (from to : ℤ)
     (none : (local : Local) → let t = instant (clocks_in s.zones) (time_at s.event.now.start local) in from ≤ℤ t → t <ℤ to
-    → wanted_by (clocks_in s.zones) s.window s.event.now s.since s.replaced.instants.items (start_at (clocks_in s.zones) s.event.now local) ≡ None)
+    → wanted_by (clocks_in s.zones) s.window s.event.now s.since s.replaced (start_at (clocks_in s.zones) s.event.now local) ≡ None)
     (apart : (t : Start) → IsIn t (listed_left s.listed) → from ≤ℤ t.moment → to ≤ℤ t.moment) where
   amid-unwanted : (t : Start) → IsIn t (listed_left s.listed) ⊎ ((n : ℕ) × (t ≡ start_at (clocks_in s.zones) s.event.now (local_numbered n)))
       → not (int_le from t.moment && not (int_le to t.moment)) ≡ false
-      → wanted_by (clocks_in s.zones) s.window s.event.now s.since s.replaced.instants.items t ≡ None
+      → wanted_by (clocks_in s.zones) s.window s.event.now s.since s.replaced t ≡ None
   amid-unwanted t by e =
       let parts = amid-parts (int_le from t.moment) (int_le to t.moment) e in
       let late = int_le_true from t.moment parts.0 in
@@ -126,7 +126,7 @@ module _ (s : Series) (from to : ℤ)
       (λ k.
       let at = ap (λ (x : Start). x.moment) k.1 in
       let before = le-less to t.moment parts.1 in
-      subst (λ (x : Start). wanted_by (clocks_in s.zones) s.window s.event.now s.since s.replaced.instants.items x ≡ None) (sym k.1)
+      subst (λ (x : Start). wanted_by (clocks_in s.zones) s.window s.event.now s.since s.replaced x ≡ None) (sym k.1)
       (none (local_numbered k.0) (omega (arith, ints, at, late)) (omega (arith, ints, at, before))))
       by
 
@@ -156,12 +156,12 @@ module _ (s : Series) (duration : Duration) (lasting : AreLasting (clocks_in s.z
   entry local = entry_from (clocks_in s.zones) s.event.now (At (time_at s.event.now.start local))
 
   over-unmet : (local : Local) → from ≤ℤ (entry local).start → (entry local).start <ℤ to
-      → is_wanted (clocks_in s.zones) s.window s.event.now s.since s.replaced.instants.items (entry local) ≡ true → ⊥
+      → is_wanted (clocks_in s.zones) s.window s.event.now s.since s.replaced (entry local) ≡ true → ⊥
   over-unmet local late early e =
       let o = entry local in
       let parts = and_parts (int_le s.since o.start) (is_met s.window o
-      && not (is_left_out (clocks_in s.zones) s.event.now s.replaced.instants.items o.start)) e in
-      let met = and_parts (is_met s.window o) (not (is_left_out (clocks_in s.zones) s.event.now s.replaced.instants.items o.start)) parts.1 in
+      && not (is_left_out (clocks_in s.zones) s.event.now s.replaced o.start)) e in
+      let met = and_parts (is_met s.window o) (not (is_left_out (clocks_in s.zones) s.event.now s.replaced o.start)) parts.1 in
       let gone = over o.start late early in
       let end = lasting local in
       let last = int_max_is o.start (end_of (clocks_in s.zones) s.event.now (At (time_at s.event.now.start local))) in
@@ -169,9 +169,9 @@ module _ (s : Series) (duration : Duration) (lasting : AreLasting (clocks_in s.z
       (is_met-meets s.window o met.0).lasting
 
   over-unwanted : (local : Local) → let t = instant (clocks_in s.zones) (time_at s.event.now.start local) in from ≤ℤ t → t <ℤ to
-      → wanted_by (clocks_in s.zones) s.window s.event.now s.since s.replaced.instants.items (start_at (clocks_in s.zones) s.event.now local) ≡ None
+      → wanted_by (clocks_in s.zones) s.window s.event.now s.since s.replaced (start_at (clocks_in s.zones) s.event.now local) ≡ None
   over-unwanted local late early =
-      by-test (is_wanted (clocks_in s.zones) s.window s.event.now s.since s.replaced.instants.items (entry local)) (λ e. absurd (over-unmet local late early e))
+      by-test (is_wanted (clocks_in s.zones) s.window s.event.now s.since s.replaced (entry local)) (λ e. absurd (over-unmet local late early e))
       (λ e. ap (λ b. if b then Some (entry local) else None) e)
 
   pub over-test : ((t : Start) → IsIn t (listed_left s.listed) → from ≤ℤ t.moment → to ≤ℤ t.moment) → IsTest s (IsAmid from to)

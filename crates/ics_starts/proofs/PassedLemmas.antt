@@ -161,7 +161,7 @@ pub record IsTest (s : Series) (P : RuleStarts → ℕ → Type 0) (keep : ℤ �
       → keep (moment_numbered (clocks_in s.zones) s.event.now n) ≡ false
   pub unwanted : (t : Start) → t.moment ≡ instant (clocks_in s.zones) (time_of t.given)
       → IsIn t (listed_left s.listed) ⊎ ((n : ℕ) × (t ≡ start_at (clocks_in s.zones) s.event.now (local_numbered n)))
-      → keep t.moment ≡ false → wanted_by (clocks_in s.zones) s.window s.event.now s.since s.replaced.instants.items t ≡ None
+      → keep t.moment ≡ false → wanted_by (clocks_in s.zones) s.window s.event.now s.since s.replaced t ≡ None
 
 -- A series of whose rule locals are passed over that such a test tells apart.
 module _ (s : Series) {P : RuleStarts → ℕ → Type 0} {keep : ℤ → Bool} (test : IsTest s P keep) (a b : RuleStarts) (is : s.rule_starts ≡ Some a)
@@ -189,7 +189,7 @@ module _ (s : Series) {P : RuleStarts → ℕ → Type 0} {keep : ℤ → Bool} 
   all n = union moment_cmp (by-rule n) listed
 
   abbrev given : List Start → List Entry
-  given starts = given_of clocks s.window event s.since s.replaced.instants.items starts
+  given starts = given_of clocks s.window event s.since s.replaced starts
 
   own : IsOwnRule s.zones event s.window (first_of clocks s.window event s.since) a
   own = own-of s a is
@@ -266,17 +266,17 @@ module _ (s : Series) {P : RuleStarts → ℕ → Type 0} {keep : ℤ → Bool} 
       ⊎_elim (s.listed_known t) (λ q. subst (IsStartIn s.zones) (sym q.1) (rule-in q.0 q.2)) (listed-or-ruled n t m)
 
   -- so nothing that is wanted goes
-  none-lost : (n : ℕ) (t : Start) → IsIn t (all n) → keep t.moment ≡ false → wanted_by clocks s.window event s.since s.replaced.instants.items t ≡ None
+  none-lost : (n : ℕ) (t : Start) → IsIn t (all n) → keep t.moment ≡ false → wanted_by clocks s.window event s.since s.replaced t ≡ None
   none-lost n t m e = test.unwanted t (known-all n t m).moment (⊎_elim inl (λ q. inr (q.0, q.1)) (listed-or-ruled n t m)) e
 
   given-kept : (starts : List Start)
-      → ((t : Start) → IsIn t starts → keep t.moment ≡ false → wanted_by clocks s.window event s.since s.replaced.instants.items t ≡ None)
+      → ((t : Start) → IsIn t starts → keep t.moment ≡ false → wanted_by clocks s.window event s.since s.replaced t ≡ None)
       → given starts ≡ given (filter kept starts)
   given-kept [] lost = refl
   given-kept (t ∷ starts) lost =
       let ih = given-kept starts (λ u m. lost u (inr m)) in
       by-test (keep t.moment)
-      (λ e. rw e (ap (cons_option (wanted_by clocks s.window event s.since s.replaced.instants.items t)) ih))
+      (λ e. rw e (ap (cons_option (wanted_by clocks s.window event s.since s.replaced t)) ih))
       (λ e. rw (e, lost t (inl refl) e) ih)
 
   same-given : given (left (Some b) s.listed) ≡ given (series_left s)
@@ -308,13 +308,13 @@ module _ (s : Series) {P : RuleStarts → ℕ → Type 0} {keep : ℤ → Bool} 
   -- what is given begins at an instant that the test lets through
   given-passes : (o : Entry) → IsIn o (given (series_left s)) → keep o.start ≡ true
   given-passes o there =
-      let picked = in-picked clocks event (is_wanted clocks s.window event s.since s.replaced.instants.items) (series_left s) o there in
+      let picked = in-picked clocks event (is_wanted clocks s.window event s.since s.replaced) (series_left s) o there in
       let u = picked.start in
       let at : u.moment ≡ o.start = (s.known u picked.stands).moment ∙ ap (λ (e : Entry). e.start) (sym picked.is) in
       let own-entry : Entry = entry_from clocks event u.given in
-      let is : is_wanted clocks s.window event s.since s.replaced.instants.items own-entry ≡ true =
-      ap (is_wanted clocks s.window event s.since s.replaced.instants.items) (sym picked.is) ∙ picked.passes in
-      let some : wanted_by clocks s.window event s.since s.replaced.instants.items u ≡ Some own-entry = ap (λ b. if b then Some own-entry else None) is in
+      let is : is_wanted clocks s.window event s.since s.replaced own-entry ≡ true =
+      ap (is_wanted clocks s.window event s.since s.replaced) (sym picked.is) ∙ picked.passes in
+      let some : wanted_by clocks s.window event s.since s.replaced u ≡ Some own-entry = ap (λ b. if b then Some own-entry else None) is in
       ap keep (sym at)
       ∙ by-test (keep u.moment) (λ e. e)
       (λ e. let f : None ≡ Some own-entry = sym (none-lost from u (subst (IsIn u) before picked.stands) e) ∙ some in absurd cc)

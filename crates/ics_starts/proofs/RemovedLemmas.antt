@@ -43,10 +43,10 @@ module _ (s : Series) where
   own-entry t = entry_from clocks event t.given
 
   unwanted : (t : Start) → t.moment ≡ instant clocks (time_of t.given) → not (is_excluded clocks event t.moment) ≡ false
-      → wanted_by clocks s.window event s.since s.replaced.instants.items t ≡ None
+      → wanted_by clocks s.window event s.since s.replaced t ≡ None
   unwanted t at e =
       by (int_le s.since (own-entry t).start) (is_met s.window (own-entry t)) (is_excluded clocks event (own-entry t).start)
-      (is_among s.replaced.instants.items (own-entry t).start) (ap (λ m. not (is_excluded clocks event m)) (sym at) ∙ e)
+      (is_among s.replaced (own-entry t).start) (ap (λ m. not (is_excluded clocks event m)) (sym at) ∙ e)
     where
       by : (x y z v : Bool) → not z ≡ false → (if x && (y && not (z || v)) then Some (own-entry t) else None) ≡ None
       by x y z v e = grind arith

@@ -37,7 +37,7 @@ both-same {a = a} {b = b} {c = c} p q = record {
 module _ (old new : Series) (same : IsSameSeries old new) where
   same-given : (starts : List Start) → series_of new starts ≡ series_of old starts
   same-given starts =
-      λ i. given_of (clocks_in (same.zones i)) (same.window i) ((same.event i).now) (same.since i) (same.replaced i).instants.items starts
+      λ i. given_of (clocks_in (same.zones i)) (same.window i) ((same.event i).now) (same.since i) (same.replaced i) starts
 
   pub same-coming : series_left new ≡ series_left old → series_of new (series_left new) ≡ series_of old (series_left old)
   same-coming left = same-given (series_left new) ∙ ap (series_of old) left
@@ -46,7 +46,7 @@ module _ (old new : Series) (same : IsSameSeries old new) where
   same-sources = λ i. source_of (clocks_in (same.zones i)) ((same.event i).now) (same.window i) (same.since i)
 
   -- a start that gives nothing goes
-  pub dropped : (start : Start) → wanted_by (clocks_in old.zones) old.window old.event.now old.since old.replaced.instants.items start ≡ None
+  pub dropped : (start : Start) → wanted_by (clocks_in old.zones) old.window old.event.now old.since old.replaced start ≡ None
       → series_left old ≡ start ∷ series_left new → series_of new (series_left new) ≡ series_of old (series_left old)
   dropped start none first =
       same-given (series_left new)

@@ -279,7 +279,7 @@ module _ (clocks : Clocks) (event : Event) where
 -- What is still to come is near.
 pub series-near : (s : Series) (o : Entry) → IsIn o (series_of s (series_left s)) → series_near s o
 series-near s o m = (
-  given-own (clocks_in s.zones) s.window s.event.now s.since s.replaced.instants.items (series_left s) o m,
+  given-own (clocks_in s.zones) s.window s.event.now s.since s.replaced (series_left s) o m,
   rule-near (clocks_in s.zones) s.event.now s.rule_starts (series_of s (series_left s)) s.ruled o m,
 )
 

@@ -20,7 +20,7 @@ series_left s = left s.rule_starts s.listed
 
 -- the occurrences that these starts give
 abbrev pub series_of : Series → List Start → List Entry
-series_of s starts = given_of (clocks_in s.zones) s.window s.event.now s.since s.replaced.instants.items starts
+series_of s starts = given_of (clocks_in s.zones) s.window s.event.now s.since s.replaced starts
 
 -- its occurrences are of its event, in its window, from an instant on
 abbrev pub source_of : Clocks → Event → Window → ℤ → List Source

@@ -87,14 +87,14 @@ pub struct Series<'a> {
     // A start that the rule hides may come to light.
     ghost listed_known: { AreStartsIn zones (listed_left listed) } by { starts-in-prop zones (listed_left listed) },
     ghost ruled: { HasRuled (clocks_in zones) event.now rule_starts
-        (given_of (clocks_in zones) window event.now since replaced.instants.items (left rule_starts listed)) } by { ruled-prop (clocks_in zones)
+        (given_of (clocks_in zones) window event.now since replaced (left rule_starts listed)) } by { ruled-prop (clocks_in zones)
             event.now rule_starts
-            (given_of (clocks_in zones) window event.now since replaced.instants.items (left rule_starts listed)) },
+            (given_of (clocks_in zones) window event.now since replaced (left rule_starts listed)) },
     ghost own_rule: { HasOwnRule zones event.now window (first_of (clocks_in zones) window event.now since) rule_starts } by { own-rule-prop zones event.now
         window (first_of (clocks_in zones) window event.now since) rule_starts },
     ghost rising: { Rises entry_cmp
-        (given_of (clocks_in zones) window event.now since replaced.instants.items (left rule_starts listed)) } by { Rises-prop entry_cmp
-            (given_of (clocks_in zones) window event.now since replaced.instants.items (left rule_starts listed)) },
+        (given_of (clocks_in zones) window event.now since replaced (left rule_starts listed)) } by { Rises-prop entry_cmp
+            (given_of (clocks_in zones) window event.now since replaced (left rule_starts listed)) },
 }
 
 /// The starts that are known from the beginning: those by RDATEs and, if there is no rule, the one at
@@ -448,7 +448,7 @@ impl<'a> Series<'a> {
         requires own { IsOwnEvent zones event.now }
         requires mark { IsMarkOf event.now mark }
         ensures listing { IfOk result (λ series. IsListing entry_cmp
-            (IsSeriesMet (clocks_in zones.entry) event.entry.now window since replaced.instants.items)
+            (IsSeriesMet (clocks_in zones.entry) event.entry.now window since replaced)
             (⟦<Series<'a> as Coming>⟧.coming series)) }
         ensures sources { IfOk result (λ series. series_sources series ≡ source_of (clocks_in zones.entry) event.entry.now window since) }
         ensures begun { IfOk result (λ series. MatchOption series.rule_starts (Unit {0}) (λ s. IsBegun s.rule s.from s.cursor)) }
@@ -498,7 +498,7 @@ impl<'a> Series<'a> {
         requires same { self.old.event.now ≡ event.now }
         requires mark { IsMarkOf event.now mark }
         ensures listing { OnOk result (IsListing entry_cmp
-            (IsSeriesMet (clocks_in zones.entry) event.entry.now window since replaced.instants.items)
+            (IsSeriesMet (clocks_in zones.entry) event.entry.now window since replaced)
             (⟦<Series<'a> as Coming>⟧.coming self.new)) }
         ensures sources { OnOk result (series_sources self.new ≡ source_of (clocks_in zones.entry) event.entry.now window since) }
         ensures begun { OnOk result (MatchOption self.new.rule_starts (Unit {0}) (λ s. IsBegun s.rule s.from s.cursor)) }
@@ -590,7 +590,7 @@ impl<'a> Series<'a> {
     fn can_give(&self, start: Start) -> bool
         requires { IsStartIn self.now.zones start }
         ensures { result ≡ false → wanted_by (clocks_in self.now.zones) self.now.window self.now.event.now self.now.since
-            self.now.replaced.instants.items start ≡ None }
+            self.now.replaced start ≡ None }
     {
         if self.window.to <= start.moment {
             return false;
@@ -779,7 +779,7 @@ impl<'a> Series<'a> {
     fn wanted(&self, start: Start) -> Option<Occurrence<'a>>
         requires { IsStartIn self.now.zones start }
         ensures { option_map entry_of result ≡ wanted_by (clocks_in self.now.zones) self.now.window self.now.event.now self.now.since
-            self.now.replaced.instants.items start }
+            self.now.replaced start }
     {
         if start.moment < self.since {
             return None;

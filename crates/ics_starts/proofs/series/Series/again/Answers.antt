@@ -43,7 +43,7 @@ invariant_of-self c =
     let starts = starts-since c.args.zones w event sound c.args.since (listed_left c.in_ok-starts.starts) firsts c.begin_again.new.rule ruled in
     let same : c.place_dates.new.self.event.now ≡ event = ap (λ (e : Bor Event). e.now) c.place_dates.ensures ∙ c.requires.same in
     let dates = subst (λ (v : Event). HasDates v c.place_dates.new.self.dates) same c.place_dates.new.self.dates_are in
-    let listing = series-listing clocks w event c.args.since c.args.replaced.instants.items (left c.begin_again.new.rule c.in_ok-starts.starts) starts in
+    let listing = series-listing clocks w event c.args.since c.args.replaced (left c.begin_again.new.rule c.in_ok-starts.starts) starts in
     record {
       first_is = tt;
       own = c.requires.own;
@@ -53,8 +53,8 @@ invariant_of-self c =
       known = λ s m. start-in c.args.zones w event c.requires.own s (starts.are s m);
       listed_known = λ s m. start-in c.args.zones w event c.requires.own s (start-apart c.args.zones w event event.rule s (firsts.are s m));
       ruled = rw since
-          (has-ruled c.args.zones w event sound c.args.since c.args.replaced.instants.items c.begin_again.new.rule
-          (given_of clocks w event c.args.since c.args.replaced.instants.items (left c.begin_again.new.rule c.in_ok-starts.starts)) ruled listing);
+          (has-ruled c.args.zones w event sound c.args.since c.args.replaced c.begin_again.new.rule
+          (given_of clocks w event c.args.since c.args.replaced (left c.begin_again.new.rule c.in_ok-starts.starts)) ruled listing);
       own_rule = rw since (c.begin_again.ensures.own _ begin);
       rising = rw since listing.rises;
     }
@@ -71,4 +71,4 @@ returns-clause-listing c =
     let begin = rw (since, c.deref-2.ensures.value ∙ c.in_ok-listed.ensures.starts) at c.begin_of_rule-begin.ensures in
     let ruled = c.begin_again.ensures.from c.args.since (listed_apart clocks w event event.rule) begin in
     let starts = starts-since c.args.zones w event sound c.args.since (listed_left c.in_ok-starts.starts) firsts c.begin_again.new.rule ruled in
-    rw since (series-listing clocks w event c.args.since c.args.replaced.instants.items (left c.begin_again.new.rule c.in_ok-starts.starts) starts)
+    rw since (series-listing clocks w event c.args.since c.args.replaced (left c.begin_again.new.rule c.in_ok-starts.starts) starts)

@@ -32,7 +32,7 @@ module _ (clocks : Clocks) (w : Window) (event : Event) (since : ℤ) (replaced 
 pub returns-then-self-start : goal.returns-then-self-start
 returns-then-self-start c = λ e.
     let s = c.args.self.now in
-    behind (clocks_in s.zones) s.window s.event.now s.since s.replaced.instants.items c.args.start
+    behind (clocks_in s.zones) s.window s.event.now s.since s.replaced c.args.start
     (omega (arith, ints, c.requires.moment, c.if-self-start.true))
 
 pub returns : goal.returns

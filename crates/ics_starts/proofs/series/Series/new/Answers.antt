@@ -1,4 +1,4 @@
-use Rattle.std.proofs.Common.{◌≡◌, ◌∙◌, ap, arith, subst, get_or, w64, to_z, of_z, SFits}
+use Rattle.std.proofs.Common.{◌≡◌, ◌∙◌, arith, subst, get_or, w64, to_z, of_z, SFits}
 use Rattle.std.proofs.lemmas.Int.{ints}
 use Rattle.std.proofs.lemmas.List.Elements.{Contains-get_or}
 use Rattle.ics_listing.specs.declared.start.Start.{Start}
@@ -7,7 +7,6 @@ use Rattle.ics_listing.specs.Listing.{IsIn}
 use Rattle.ics_listing.proofs.ListingLemmas.{in-contains}
 use Rattle.ics_starts.specs.Clocks.{clock_of}
 use Rattle.ics_starts.specs.FileZones.{clocks_in}
-use Rattle.ics_starts.specs.SeriesFeed.{source_of}
 use Rattle.ics_starts.specs.SeriesStarts.{first_asked, given_of, left, HasOwnRule}
 use Rattle.ics_starts.proofs.BegunLemmas.{has-ruled, start-apart, start-in, starts-since}
 use Rattle.ics_starts.proofs.SeriesLemmas.{series-listing}
@@ -25,8 +24,8 @@ starts_by_rule-requires-clause-listed c =
     start-in c.args.zones c.args.window event c.requires.own s
     (start-apart c.args.zones c.args.window event event.rule s (subst (IsIn s) (c.deref-2.ensures.value ∙ c.in_ok-listed.ensures.starts) there))
 
-pub invariant_of-result : goal.invariant_of-result
-invariant_of-result c =
+pub invariant_of-result-2 : goal.invariant_of-result-2
+invariant_of-result-2 c =
     let w = c.args.window in
     let event = c.args.event.now in
     let clocks = clocks_in c.args.zones in
@@ -36,7 +35,7 @@ invariant_of-result c =
     let firsts = rw c.in_ok-listed.ensures.starts at c.in_ok-new.ensures in
     let ruled = rw (since, c.deref-2.ensures.value ∙ c.in_ok-listed.ensures.starts) at c.in_ok-rule_starts.ensures.from in
     let starts = starts-since c.args.zones w event sound c.args.since (listed_left c.in_ok-new.field-0) firsts c.in_ok-rule_starts.rule_starts ruled in
-    let listing = series-listing clocks w event c.args.since c.args.replaced.instants.items
+    let listing = series-listing clocks w event c.args.since c.args.replaced
     (left c.in_ok-rule_starts.rule_starts c.in_ok-new.field-0) starts in
     record {
       first_is = tt;
@@ -46,16 +45,16 @@ invariant_of-result c =
       dates_are = tt;
       known = λ s m. start-in c.args.zones w event c.requires.own s (starts.are s m);
       listed_known = λ s m. start-in c.args.zones w event c.requires.own s (start-apart c.args.zones w event event.rule s (firsts.are s m));
-      ruled = rw since
-          (has-ruled c.args.zones w event sound c.args.since c.args.replaced.instants.items c.in_ok-rule_starts.rule_starts
-          (given_of clocks w event c.args.since c.args.replaced.instants.items (left c.in_ok-rule_starts.rule_starts c.in_ok-new.field-0)) ruled listing);
+      ruled = rw (since, c.replaced.view_is)
+          (has-ruled c.args.zones w event sound c.args.since c.args.replaced c.in_ok-rule_starts.rule_starts
+          (given_of clocks w event c.args.since c.args.replaced (left c.in_ok-rule_starts.rule_starts c.in_ok-new.field-0)) ruled listing);
       own_rule = subst (λ xs. HasOwnRule c.args.zones event w (first_asked clocks w event (to_z w64 (of_z w64 c.args.since)) xs)
           c.in_ok-rule_starts.rule_starts) (c.deref-2.ensures.value ∙ c.in_ok-listed.ensures.starts) c.in_ok-rule_starts.ensures.own;
-      rising = rw since listing.rises;
+      rising = rw (since, c.replaced.view_is) listing.rises;
     }
 
-pub returns : goal.returns
-returns c =
+pub returns-clause-listing : goal.returns-clause-listing
+returns-clause-listing c =
     let w = c.args.window in
     let event = c.args.event.now in
     let clocks = clocks_in c.args.zones in
@@ -65,9 +64,5 @@ returns c =
     let firsts = rw c.in_ok-listed.ensures.starts at c.in_ok-new.ensures in
     let ruled = rw (since, c.deref-2.ensures.value ∙ c.in_ok-listed.ensures.starts) at c.in_ok-rule_starts.ensures.from in
     let starts = starts-since c.args.zones w event sound c.args.since (listed_left c.in_ok-new.field-0) firsts c.in_ok-rule_starts.rule_starts ruled in
-    record {
-      listing = rw since
-          (series-listing clocks w event c.args.since c.args.replaced.instants.items (left c.in_ok-rule_starts.rule_starts c.in_ok-new.field-0) starts);
-      sources = ap (source_of clocks event w) since;
-      begun = c.in_ok-rule_starts.ensures.begun;
-    }
+    rw (since, c.replaced.view_is)
+    (series-listing clocks w event c.args.since c.args.replaced (left c.in_ok-rule_starts.rule_starts c.in_ok-new.field-0) starts)

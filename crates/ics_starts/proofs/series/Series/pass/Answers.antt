@@ -24,7 +24,7 @@ invariant_of-self c =
       dates_are = s.dates_are;
       known = rest-of taken s.known;
       listed_known = λ t m. s.listed_known t (in-cut moment_cmp moment_total start t (listed_left s.listed) (subst (IsIn t) c.pass.ensures m));
-      ruled = ruled-rest (clocks_in s.zones) s.window s.event.now s.since s.replaced.instants.items s.rule_starts c.pass_rule.new.rule
+      ruled = ruled-rest (clocks_in s.zones) s.window s.event.now s.since s.replaced s.rule_starts c.pass_rule.new.rule
           c.pass_rule.ensures.rule c.pass_rule.ensures.left (record {
             is = taken;
             rises = rises-union moment_cmp moment_total (rule_left s.rule_starts) (listed_left s.listed) (rises-listed s.listed);
@@ -33,7 +33,7 @@ invariant_of-self c =
           s.ruled;
       own_rule = own-rule-same s.zones s.event.now s.window (first_of (clocks_in s.zones) s.window s.event.now s.since) s.rule_starts
           c.pass_rule.new.rule c.pass_rule.ensures.rule s.own_rule;
-      rising = rises-rest (clocks_in s.zones) s.window s.event.now s.since s.replaced.instants.items taken s.rising;
+      rising = rises-rest (clocks_in s.zones) s.window s.event.now s.since s.replaced taken s.rising;
     }
 
 pub returns : goal.returns

@@ -64,40 +64,40 @@ pub returns-then-names : goal.returns-then-names
 returns-then-names c =
     let s = c.args.self.now in
     let fits : to_z w64 (of_z w64 c.args.start.moment) ≡ c.args.start.moment = search rules in
-    sym (given-up (clocks_in s.zones) s.window s.event.now s.since s.replaced.instants.items c.args.start
-    (subst (λ t. is_among s.replaced.instants.items t ≡ true) (fits ∙ c.requires.moment) (sym c.names.ensures ∙ c.if-names.true)))
+    sym (given-up (clocks_in s.zones) s.window s.event.now s.since s.replaced c.args.start
+    (subst (λ t. is_among s.replaced t ≡ true) (fits ∙ c.requires.moment) (sym c.names.ensures ∙ c.if-names.true)))
 
 pub returns-in_err-occurrence : goal.returns-in_err-occurrence
 returns-in_err-occurrence c =
     let s = c.args.self.now in
     ap (option_map entry_of) c.from_residual.ensures
-    ∙ sym (unmet (clocks_in s.zones) s.window s.event.now s.since s.replaced.instants.items c.args.start (sym c.in_err-occurrence.ensures))
+    ∙ sym (unmet (clocks_in s.zones) s.window s.event.now s.since s.replaced c.args.start (sym c.in_err-occurrence.ensures))
 
 pub is_removed-requires-clause-early : goal.is_removed-requires-clause-early
 is_removed-requires-clause-early c =
     let s = c.args.self.now in
-    let start = begun (clocks_in s.zones) s.window s.event.now s.since s.replaced.instants.items c.args.start c.in_ok-occurrence.occurrence
+    let start = begun (clocks_in s.zones) s.window s.event.now s.since s.replaced c.args.start c.in_ok-occurrence.occurrence
     c.in_ok-occurrence.ensures in
     omega (arith, ints, c.type_inv.occurrence, start.1, s.window.not_late)
 
 pub returns-then-is_removed : goal.returns-then-is_removed
 returns-then-is_removed c =
     let s = c.args.self.now in
-    let out = excluded (clocks_in s.zones) s.window s.event.now s.since s.replaced.instants.items c.args.start c.in_ok-occurrence.occurrence
+    let out = excluded (clocks_in s.zones) s.window s.event.now s.since s.replaced c.args.start c.in_ok-occurrence.occurrence
     c.in_ok-occurrence.ensures c.is_removed.ensures in
     let fits : to_z w64 (of_z w64 c.args.start.moment) ≡ c.args.start.moment = search rules in
-    sym (not-out (clocks_in s.zones) s.window s.event.now s.since s.replaced.instants.items c.args.start
+    sym (not-out (clocks_in s.zones) s.window s.event.now s.since s.replaced c.args.start
     (omega (arith, ints, c.requires.moment, c.if-start-self.false))
-    (subst (λ t. is_among s.replaced.instants.items t ≡ false) (fits ∙ c.requires.moment) (sym c.names.ensures ∙ c.if-names.false))
+    (subst (λ t. is_among s.replaced t ≡ false) (fits ∙ c.requires.moment) (sym c.names.ensures ∙ c.if-names.false))
     (out ∙ c.if-is_removed.true))
 
 pub returns-else-is_removed : goal.returns-else-is_removed
 returns-else-is_removed c =
     let s = c.args.self.now in
-    let out = excluded (clocks_in s.zones) s.window s.event.now s.since s.replaced.instants.items c.args.start c.in_ok-occurrence.occurrence
+    let out = excluded (clocks_in s.zones) s.window s.event.now s.since s.replaced c.args.start c.in_ok-occurrence.occurrence
     c.in_ok-occurrence.ensures c.is_removed.ensures in
     let fits : to_z w64 (of_z w64 c.args.start.moment) ≡ c.args.start.moment = search rules in
-    c.in_ok-occurrence.ensures ∙ sym (not-out (clocks_in s.zones) s.window s.event.now s.since s.replaced.instants.items c.args.start
+    c.in_ok-occurrence.ensures ∙ sym (not-out (clocks_in s.zones) s.window s.event.now s.since s.replaced c.args.start
     (omega (arith, ints, c.requires.moment, c.if-start-self.false))
-    (subst (λ t. is_among s.replaced.instants.items t ≡ false) (fits ∙ c.requires.moment) (sym c.names.ensures ∙ c.if-names.false))
+    (subst (λ t. is_among s.replaced t ≡ false) (fits ∙ c.requires.moment) (sym c.names.ensures ∙ c.if-names.false))
     (out ∙ c.if-is_removed.false))

@@ -13,7 +13,7 @@ use Rattle.ics_starts.proofs.series.SeriesBegins.from.Goals as goal
 pub returns-clause-from : goal.returns-clause-from
 returns-clause-from c = λ o m.
     let s = c.args.self.now in
-    let at = given-start (clocks_in s.zones) s.window s.event.now s.since s.replaced.instants.items (series_left s)
+    let at = given-start (clocks_in s.zones) s.window s.event.now s.since s.replaced (series_left s)
     (λ t n. (s.known t n).moment) o m in
     ⊎_elim
     (λ n. omega (arith, ints, int_max_is, int_min_is, c.max.ensures, c.min-starts.ensures, c.rule_from.ensures at.1.0 n, at.0, at.1.2))
