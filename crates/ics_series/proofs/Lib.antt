@@ -11,6 +11,7 @@ pub mod OverrideLemmas
 pub mod ReachLemmas
 pub mod RecurringLemmas
 pub mod ReplacedLemmas
+pub mod SharedLemmas
 pub mod SinglesLemmas
 pub mod SourceLemmas
 pub mod SpanLemmas

@@ -46,7 +46,7 @@ master-in (Series s ∷ ps) (m ∷ ms) zero a e n =
     let s = s.series.value in record {
       master = m;
       stands = refl;
-      event = given-own (clocks_in s.zones) s.window s.event.now s.since s.replaced.instants.items (series_left s) a n
+      event = given-own (clocks_in s.zones) s.window s.event.now s.since s.replaced (series_left s) a n
           ∙ ap (λ (r : Recurring). r.event) (same-master e);
     }
 master-in (Singles s ∷ ps) (m ∷ ms) zero a e n = let no : Once ∷ flat_map part_sources ps ≡ Of m ∷ map Of ms = e in absurd cc

@@ -4,6 +4,7 @@ pub mod Ended
 pub mod Kept
 pub mod Marks
 pub mod Masters
+pub mod Shared
 pub mod SpanLaws
 pub mod Spans
 pub mod Whole

@@ -12,6 +12,7 @@ ghost use Rattle.ics_series.specs.Holding.{part_holds, part_looked};
 ghost use Rattle.ics_listing.specs.Listing.{IsIn, IsListing};
 ghost use Rattle.ics_series.specs.Inner.Kept.{AreKept};
 ghost use Rattle.ics_series.specs.Inner.Marks.{AreMarks};
+ghost use Rattle.ics_series.specs.Inner.Shared.{AreShared};
 ghost use Rattle.ics_series.specs.Meets.{IsListed, IsToCome};
 ghost use Rattle.ics_listing.specs.Merges.{merge_all, merge_coming, merge_holds, merge_looked};
 ghost use Rattle.ics_listing.specs.Inner.MergesLaws.{rises-merge};
@@ -34,7 +35,7 @@ use crate::version::{Subject, Version};
 use ics_days::{Span, all_places};
 use ics_file::FileEvents;
 use ics_listing::{Coming, Feed, Key, Lead, Merge, Occurrence, Window};
-use ics_starts::{Mark, Series};
+use ics_starts::{Mark, Replaced, Series};
 use ics_values::Moment;
 use ics_zone::Display;
 use std::alloc::{AllocError, Global};
@@ -78,9 +79,21 @@ impl<'a> Agenda<'a> {
         let mut spans = Vec::new(alloc);
         let mut marks = Vec::new(alloc);
         let mut kept = Vec::new(alloc);
+        let mut shared = Vec::new(alloc);
         Agenda::of(
-            alloc, files, display, &chosen, &overrides, &near, &mut spans, &mut marks, &mut kept,
-            window, after, None,
+            alloc,
+            files,
+            display,
+            &chosen,
+            &overrides,
+            &near,
+            &mut spans,
+            &mut marks,
+            &mut kept,
+            &mut shared,
+            window,
+            after,
+            None,
         )
     }
 
@@ -97,6 +110,7 @@ impl<'a> Agenda<'a> {
         spans: &mut Vec<Span>,
         marks: &mut Vec<Option<Mark>>,
         kept: &mut Vec<Option<Box<Series<'a>>>>,
+        shared: &mut Vec<Option<Replaced>>,
         window: Window,
         after: Option<&Key>,
         floor: Option<Moment>,
@@ -108,11 +122,13 @@ impl<'a> Agenda<'a> {
         requires floor { (o : Entry) → is_after (option_map (λ key. key_rank key.now) after) o ≡ true → IsStartedBy floor o }
         requires marks { AreMarks (map said_by files.now) (map seen chosen.now) marks.old.items }
         requires kept { AreKept (map said_by files.now) (display_clock display.now) kept.old.items }
+        requires shared { AreShared (map seen chosen.now) shared.old.items }
         ensures spans { AreMovedOn (map said_by files.entry.now) (display_clock display.entry.now) window floor (map seen chosen.entry.now)
             spans.old.items spans.new.items }
         ensures others { AreSameBut near.entry.now spans.old.items spans.new.items }
         ensures marks { AreMarks (map said_by files.entry.now) (map seen chosen.entry.now) marks.new.items }
         ensures kept { AreKept (map said_by files.entry.now) (display_clock display.entry.now) kept.new.items }
+        ensures shared { AreShared (map seen chosen.entry.now) shared.new.items }
         ensures listing { IfOk result (λ agenda. IsListing entry_cmp
             (IsToCome (map said_by files.entry.now) (display_clock display.entry.now) window
             (option_map (λ key. key_rank key.now) after.entry))
@@ -126,8 +142,8 @@ impl<'a> Agenda<'a> {
         let mut parts = first_part(alloc, singles)?;
         let sorted_from = parts.len();
         push_series(
-            alloc, &mut parts, files, display, chosen, near, spans, marks, kept, window, after,
-            floor,
+            alloc, &mut parts, files, display, chosen, near, spans, marks, kept, shared, window,
+            after, floor,
         )?;
         let recurs = parts.len() > sorted_from;
         let merge = Merge::of_sorted(alloc, parts, sorted_from, window.from)?;

@@ -26,6 +26,7 @@ ghost use Rattle.ics_series.specs.AgendaParts.{part_coming};
 ghost use Rattle.ics_series.specs.Inner.Ended.{end_of, have-ended-prop, HaveEnded};
 ghost use Rattle.ics_series.specs.Inner.Kept.{kept-prop, AreKept};
 ghost use Rattle.ics_series.specs.Inner.Marks.{marks-prop, AreMarks};
+ghost use Rattle.ics_series.specs.Inner.Shared.{shared-prop, AreShared};
 ghost use Rattle.ics_starts.specs.MeetsWindow.{Meets};
 ghost use Rattle.ics_series.specs.PlacedEvents.{Placed};
 ghost use Rattle.ics_days.specs.HasPlaces.{count_of, places-prop, HasPlaces, HasPlacesAfter};
@@ -41,6 +42,7 @@ use crate::agenda::Agenda;
 use crate::chosen::{chosen, overrides};
 use crate::kept::{add_kept, give_back};
 use crate::marks::add_places;
+use crate::shared::places_for;
 use crate::span::spans;
 use crate::version::Version;
 use ics_days::{
@@ -48,7 +50,7 @@ use ics_days::{
 };
 use ics_file::FileEvents;
 use ics_listing::{DayKey, Feed, Key, Occurrence, Window};
-use ics_starts::{Mark, Series, is_single};
+use ics_starts::{Mark, Replaced, Series, is_single};
 use ics_values::{Local, Moment};
 use ics_zone::{Bounds, Display};
 use std::alloc::{AllocError, Global};
@@ -84,6 +86,8 @@ pub struct Days<'a> {
     marks: Vec<Option<Mark>>,
     // The series of the days before, which rest.
     kept: Vec<Option<Box<Series<'a>>>>,
+    // The instances of the masters that overrides replace, as far as a day asked for them.
+    shared: Vec<Option<Replaced>>,
     today: Today<'a>,
     ghost chosen: { AreThoseChosen (map said_by files.now) (display_clock display.now) versions.items } by { those-chosen-prop (map said_by files.now)
         (display_clock display.now) versions.items },
@@ -100,6 +104,7 @@ pub struct Days<'a> {
         (map seen versions.items) marks.items },
     ghost known: { AreKept (map said_by files.now) (display_clock display.now) kept.items } by { kept-prop (map said_by files.now)
         (display_clock display.now) kept.items },
+    ghost sharing: { AreShared (map seen versions.items) shared.items } by { shared-prop (map seen versions.items) shared.items },
     ghost not_before: { first_near window bounds ≤ℤ today.day },
     ghost begun: { day_of_key (first_near window bounds) after ≤ℤ today.day },
     ghost masters: { ∥ AreDayMasters (scope_in (map said_by files.now) (display_clock display.now) bounds window after) today.day
@@ -156,13 +161,26 @@ impl<'a> Days<'a> {
         add_places(&mut marks, versions.len())?;
         let mut kept = Vec::new(alloc);
         add_kept(&mut kept, versions.len())?;
+        let mut shared = places_for(alloc, &versions, &overrides)?;
         let bounds = bounds_in(display, &window);
         let last = last_shown(display, bounds, &window);
         let floor = key_below(alloc, &window);
         let (day, key) = begin(display, bounds, &window, after, &floor);
         let agenda = Days::agenda_of(
-            alloc, files, display, &versions, &overrides, &mut near, &mut spans, &mut marks,
-            &mut kept, &window, bounds, day, key,
+            alloc,
+            files,
+            display,
+            &versions,
+            &overrides,
+            &mut near,
+            &mut spans,
+            &mut marks,
+            &mut kept,
+            &mut shared,
+            &window,
+            bounds,
+            day,
+            key,
         )?;
         let lasts = none_given(key, agenda.recurs());
         Ok(Days {
@@ -180,6 +198,7 @@ impl<'a> Days<'a> {
             places: near,
             marks,
             kept,
+            shared,
             today: Today {
                 day,
                 agenda,
@@ -200,6 +219,7 @@ impl<'a> Days<'a> {
         spans: &mut Vec<Span>,
         marks: &mut Vec<Option<Mark>>,
         kept: &mut Vec<Option<Box<Series<'a>>>>,
+        shared: &mut Vec<Option<Replaced>>,
         window: &Window,
         bounds: Bounds,
         day: i32,
@@ -212,6 +232,7 @@ impl<'a> Days<'a> {
         requires spans { spans.old.items ≡ map (span_at (map said_by files.now) (display_clock display.now) window.now) (map seen versions.now) }
         requires marks { AreMarks (map said_by files.now) (map seen versions.now) marks.old.items }
         requires kept { AreKept (map said_by files.now) (display_clock display.now) kept.old.items }
+        requires shared { AreShared (map seen versions.now) shared.old.items }
         requires bounded { HasOffsets (display_clock display.now) window.now bounds }
         requires first { first_near window.now bounds ≤ℤ day }
         ensures size { length spans.new.items ≡ length spans.old.items }
@@ -221,6 +242,7 @@ impl<'a> Days<'a> {
             (map seen versions.entry.now) spans.new.items }
         ensures marks { AreMarks (map said_by files.entry.now) (map seen versions.entry.now) marks.new.items }
         ensures kept { AreKept (map said_by files.entry.now) (display_clock display.entry.now) kept.new.items }
+        ensures shared { AreShared (map seen versions.entry.now) shared.new.items }
         ensures agenda { IfOk result (λ agenda. IsNearAgenda (map said_by files.entry.now) (display_clock display.entry.now)
             (IsNearDay (display_clock display.entry.now) window.now bounds day)
             (option_map (λ key. key_rank key.now) key.entry) (agenda_coming agenda) (agenda_sources agenda)
@@ -241,6 +263,7 @@ impl<'a> Days<'a> {
             spans,
             marks,
             kept,
+            shared,
             near,
             key,
             None,
@@ -386,6 +409,7 @@ impl<'a> Days<'a> {
             &mut self.spans,
             &mut self.marks,
             &mut self.kept,
+            &mut self.shared,
             near,
             key,
             floor_of(&self.window),

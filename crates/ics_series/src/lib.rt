@@ -12,6 +12,7 @@ mod marks;
 mod masters;
 mod part;
 mod prepare;
+mod shared;
 mod singles;
 mod span;
 mod spot;

@@ -14,6 +14,7 @@ ghost use Rattle.ics_listing.specs.Rising.{Rises};
 ghost use Rattle.ics_series.specs.Inner.Kept.{AreKept, IsPartOf, IsSeriesOf};
 ghost use Rattle.ics_series.specs.Inner.Ended.{AreMovedOff, IsMasterAt, IsOverPart};
 ghost use Rattle.ics_series.specs.Inner.Marks.{AreMarks, StayMarks};
+ghost use Rattle.ics_series.specs.Inner.Shared.{AreShared};
 ghost use Rattle.ics_starts.specs.RuleMarks.{IsBegun, IsMarkOf};
 ghost use Rattle.ics_series.specs.Inner.Masters.{AreFrom, HasLists, HasSources, IsBehind, IsOfVersion, IsSince, IsSourceOf, Recurs, named_by};
 ghost use Rattle.ics_days.specs.NearPlaces.{AreNear, AreSameBut};
@@ -32,6 +33,7 @@ ghost use Rattle.ics_series.specs.declared.part.Part.TheVariants as part;
 use crate::kept::take_kept;
 use crate::marks::{mark_at, put_mark};
 use crate::part::{Part, PlacedSeries};
+use crate::shared::{found_at, put_shared};
 use crate::span::{is_out, put_span};
 use crate::version::Version;
 use ics_days::{Span, first_at};
@@ -59,6 +61,7 @@ pub(crate) fn push_series<'a>(
     spans: &mut Vec<Span>,
     marks: &mut Vec<Option<Mark>>,
     kept: &mut Vec<Option<Box<Series<'a>>>>,
+    shared: &mut Vec<Option<Replaced>>,
     window: Window,
     after: Option<&Key>,
     floor: Option<Moment>,
@@ -69,11 +72,13 @@ pub(crate) fn push_series<'a>(
     requires floor { (o : Entry) → is_after (option_map (λ key. key_rank key.now) after) o ≡ true → IsStartedBy floor o }
     requires marks { AreMarks (map said_by files.now) (map seen chosen.now) marks.old.items }
     requires kept { AreKept (map said_by files.now) (display_clock display.now) kept.old.items }
+    requires shared { AreShared (map seen chosen.now) shared.old.items }
     ensures spans { AreMovedOn (map said_by files.entry.now) (display_clock display.entry.now) window floor (map seen chosen.entry.now)
         spans.old.items spans.new.items }
     ensures others { AreSameBut near.entry.now spans.old.items spans.new.items }
     ensures marks { AreMarks (map said_by files.entry.now) (map seen chosen.entry.now) marks.new.items }
     ensures kept { AreKept (map said_by files.entry.now) (display_clock display.entry.now) kept.new.items }
+    ensures shared { AreShared (map seen chosen.entry.now) shared.new.items }
     ensures lists { IfOk result (λ _. HasLists (map said_by files.entry.now) (display_clock display.entry.now) window
         (option_map (λ key. key_rank key.now) after.entry) (map seen chosen.entry.now)
         (map part_coming parts.old.items) (map part_coming parts.new.items)) }
@@ -93,7 +98,7 @@ pub(crate) fn push_series<'a>(
         }
         let begin = first_at(spans, place);
         if let Some(mut series) = series_at(
-            alloc, files, display, chosen, place, marks, kept, window, after, begin,
+            alloc, files, display, chosen, place, marks, kept, shared, window, after, begin,
         )? {
             put_mark(marks, place, series.mark());
             move_on(spans, place, floor, &mut series)?;
@@ -199,6 +204,7 @@ fn series_at<'a>(
     place: usize,
     marks: &[Option<Mark>],
     kept: &mut Vec<Option<Box<Series<'a>>>>,
+    shared: &mut Vec<Option<Replaced>>,
     window: Window,
     after: Option<&Key>,
     begin: Moment,
@@ -209,7 +215,9 @@ fn series_at<'a>(
     requires begin { (version : Version) → slice_get chosen.now place ≡ Some version → AreFrom (map said_by files.now) (display_clock display.now) window
         (option_map (λ key. key_rank key.now) after) (seen version) begin }
     requires kept { AreKept (map said_by files.now) (display_clock display.now) kept.old.items }
+    requires shared { AreShared (map seen chosen.now) shared.old.items }
     ensures kept { AreKept (map said_by files.entry.now) (display_clock display.entry.now) kept.new.items }
+    ensures shared { AreShared (map seen chosen.entry.now) shared.new.items }
     ensures series { (version : Version) → slice_get chosen.entry.now place ≡ Some version → IfOk result (λ given. MatchOption given
         (Recurs (map said_by files.entry.now) (seen version) → ⊥)
         (λ series. IsListing entry_cmp (IsOfVersion (map said_by files.entry.now) (display_clock display.entry.now) window
@@ -230,7 +238,7 @@ fn series_at<'a>(
     }
     let zones = version.spot.zones(files, display);
     let since = since_of(after, event.uid.as_slice());
-    let replaced = replaced_at(alloc, chosen, place)?;
+    let replaced = shared_at(alloc, shared, chosen, place)?;
     let keeps = place < kept.len();
     let resting = take_kept(kept, place, event);
     let held = series_of(
@@ -265,7 +273,7 @@ fn series_of<'a>(
     requires mark { (m : Mark) → slice_get marks.now place ≡ Some (Some m) → IsMarkOf event.now (Some m) }
     requires resting { IsSeriesOf event.now resting }
     ensures listing { IfOk result (λ series. IsListing entry_cmp
-        (IsSeriesMet (clocks_in zones.entry) event.entry.now window since replaced.instants.items)
+        (IsSeriesMet (clocks_in zones.entry) event.entry.now window since replaced)
         (⟦<Series<'a> as Coming>⟧.coming series.value)) }
     ensures sources { IfOk result (λ series. series_sources series.value ≡ source_of (clocks_in zones.entry) event.entry.now window since) }
     ensures begun { IfOk result (λ series. MatchOption series.value.rule_starts (Unit {0}) (λ s. IsBegun s.rule s.from s.cursor)) }
@@ -298,7 +306,7 @@ fn new_series<'a>(
     requires own { IsOwnEvent zones event.now }
     requires mark { IsMarkOf event.now mark }
     ensures listing { IfOk result (λ series. IsListing entry_cmp
-        (IsSeriesMet (clocks_in zones.entry) event.entry.now window since replaced.instants.items)
+        (IsSeriesMet (clocks_in zones.entry) event.entry.now window since replaced)
         (⟦<Series<'a> as Coming>⟧.coming series.value)) }
     ensures sources { IfOk result (λ series. series_sources series.value ≡ source_of (clocks_in zones.entry) event.entry.now window since) }
     ensures begun { IfOk result (λ series. MatchOption series.value.rule_starts (Unit {0}) (λ s. IsBegun s.rule s.from s.cursor)) }
@@ -308,18 +316,41 @@ fn new_series<'a>(
     Ok(held)
 }
 
+/// The instances of the master at a place that overrides replace: those that were found before, or they are found now and shared from then on.
+fn shared_at(
+    alloc: Global,
+    shared: &mut Vec<Option<Replaced>>,
+    chosen: &[Version<'_>],
+    place: usize,
+) -> Result<Replaced, AllocError>
+    requires rises { Rises (on (λ l. l.subject) subject_cmp) (map seen chosen.now) }
+    requires master { (version : Version) → slice_get chosen.now place ≡ Some version → version.subject.recurrence ≡ None }
+    requires within { place < length chosen.now }
+    requires shared { AreShared (map seen chosen.now) shared.old.items }
+    ensures shared { AreShared (map seen chosen.entry.now) shared.new.items }
+    ensures replaced { (version : Version) → slice_get chosen.entry.now place ≡ Some version
+        → IfOk result (λ replaced. replaced ≡ named_by version.subject.uid.now (map seen chosen.entry.now)) }
+{
+    if let Some(found) = found_at(shared, place) {
+        return found.share();
+    }
+    let replaced = replaced_at(alloc, chosen, place)?;
+    put_shared(shared, place, replaced.share()?);
+    Ok(replaced)
+}
+
 /// The instances of the master at a place that overrides replace. These stand behind it.
 fn replaced_at(alloc: Global, chosen: &[Version<'_>], place: usize) -> Result<Replaced, AllocError>
     requires rises { Rises (on (λ l. l.subject) subject_cmp) (map seen chosen.now) }
     requires master { (version : Version) → slice_get chosen.now place ≡ Some version → version.subject.recurrence ≡ None }
     requires within { place < length chosen.now }
     ensures { (version : Version) → slice_get chosen.entry.now place ≡ Some version
-        → IfOk result (λ replaced. replaced.instants.items ≡ named_by version.subject.uid.now (map seen chosen.entry.now)) }
+        → IfOk result (λ replaced. replaced ≡ named_by version.subject.uid.now (map seen chosen.entry.now)) }
 {
     let uid = chosen[place].subject.uid;
     let behind = &chosen[place + 1..];
     let instants = recurrences(alloc, &behind[..count_of(uid, behind)])?;
-    Ok(Replaced::new(instants))
+    Replaced::new(alloc, instants)
 }
 
 /// How many versions at the front have a UID.

@@ -21,9 +21,9 @@ AreMarks files labels marks =
 abbrev pub HasNoMark : List (Option Mark) → Type 0
 HasNoMark marks = AllByRecursion (λ mark. is_none mark ≡ true) marks
 
--- Of the marks at a later time each was there before, or it is this one, at this place.
-abbrev pub IsPut : List (Option Mark) → ℕ → Option Mark → List (Option Mark) → Type 0
-IsPut old place mark new = (k : ℕ) (m : Option Mark) → slice_get new k ≡ Some m → (slice_get old k ≡ Some m) ⊎ ((k ≡ place) × (m ≡ mark))
+-- Of what stands at places at a later time each was there before, or it is this one, at this place.
+abbrev pub IsPut : {A : Type 0} → List (Option A) → ℕ → Option A → List (Option A) → Type 0
+IsPut {A = A} old place put new = (k : ℕ) (m : Option A) → slice_get new k ≡ Some m → (slice_get old k ≡ Some m) ⊎ ((k ≡ place) × (m ≡ put))
 
 -- the marks of versions stay such, in files of which something is known
 pub record StayMarks (versions : List Version) (IsKnown : List FileSaid → Clock → Type 0) (old new : List (Option Mark)) : Type 0 where

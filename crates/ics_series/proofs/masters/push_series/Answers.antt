@@ -175,6 +175,7 @@ loop-place-init c = record {
   others = λ j away. refl;
   marks = c.requires.marks;
   kept = c.requires.kept;
+  shared = c.requires.shared;
 }
 
 pub loop-place-preserved : goal.loop-place-preserved
@@ -216,6 +217,7 @@ loop-place-preserved c =
             marks = subst (AreMarks files (map seen vs)) (sym (ap (λ (p : Vec (Option Mark) Global). p.items) w.marks-is))
                 (marked-on (goal.at.loop-place-preserved c).In_ok-series w.in-Some.series w.mark.result _ w.in-Some.is marked w.put_mark.ensures);
             kept = c.in_ok-series.ensures.kept;
+            shared = c.in_ok-series.ensures.shared;
           }
       | in_default w ↦
           record {
@@ -231,6 +233,7 @@ loop-place-preserved c =
                 c.loop-place.invariant.others;
             marks = subst (AreMarks files (map seen vs)) (sym (ap (λ (p : Vec (Option Mark) Global). p.items) w.marks-is)) c.loop-place.invariant.marks;
             kept = c.in_ok-series.ensures.kept;
+            shared = c.in_ok-series.ensures.shared;
           }
     ]
 
@@ -258,6 +261,7 @@ loop-place-preserved-then-is_out c =
       others = c.loop-place.invariant.others;
       marks = c.loop-place.invariant.marks;
       kept = c.loop-place.invariant.kept;
+      shared = c.loop-place.invariant.shared;
     }
 
 pub event-event-requires : goal.event-event-requires
@@ -285,6 +289,7 @@ loop-place-preserved-then-is_single c =
       others = c.loop-place.invariant.others;
       marks = c.loop-place.invariant.marks;
       kept = c.loop-place.invariant.kept;
+      shared = c.loop-place.invariant.shared;
     }
 
 pub returns : goal.returns
@@ -308,6 +313,7 @@ returns c =
       others = c.loop-place.invariant.others;
       marks = c.loop-place.invariant.marks;
       kept = c.loop-place.invariant.kept;
+      shared = c.loop-place.invariant.shared;
     }
 
 pub series_at-requires-clause-chosen : goal.series_at-requires-clause-chosen

@@ -6,6 +6,7 @@ use Rattle.ics_listing.specs.Entry.{key_rank}
 use Rattle.ics_series.specs.Inner.Kept.{AreKept}
 use Rattle.ics_series.specs.Inner.Marks.{AreMarks}
 use Rattle.ics_series.specs.Inner.Masters.{HasLists, HasSources}
+use Rattle.ics_series.specs.Inner.Shared.{AreShared}
 use Rattle.ics_days.specs.NearPlaces.{AreSameBut}
 use Rattle.ics_series.specs.Inner.Spans.{AreMovedOn}
 use Rattle.ics_series.specs.AgendaParts.{part_coming, part_sources}
@@ -26,4 +27,5 @@ invariant-loop-place l = record {
   others : AreSameBut l.near l.initial.spans.items l.spans.items;
   marks : AreMarks (map said_by l.files) (map seen l.chosen) l.marks.items;
   kept : AreKept (map said_by l.files) (display_clock l.display) l.kept.items;
+  shared : AreShared (map seen l.chosen) l.shared.items;
 }

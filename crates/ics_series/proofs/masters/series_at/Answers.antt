@@ -35,6 +35,7 @@ returns-then-is_single c =
     slice_get_read c.args.chosen.now _ c.args.place c.index-chosen-place.result refl c.requires.within c.index-chosen-place.is in
     record {
       kept = c.requires.kept;
+      shared = c.requires.shared;
       since = λ version there. tt;
       begun = tt;
       sources = λ version there. tt;
@@ -82,11 +83,11 @@ series_of-requires-clause-resting c =
     }) in
     c.take_kept-resting.ensures.of files display c.requires.kept of.by of.is (sym of.event)
 
-pub replaced_at-requires-clause-rises : goal.replaced_at-requires-clause-rises
-replaced_at-requires-clause-rises c = chosen-rises c.requires.chosen
+pub shared_at-requires-clause-rises : goal.shared_at-requires-clause-rises
+shared_at-requires-clause-rises c = chosen-rises c.requires.chosen
 
-pub replaced_at-requires-clause-master : goal.replaced_at-requires-clause-master
-replaced_at-requires-clause-master c = λ version there.
+pub shared_at-requires-clause-master : goal.shared_at-requires-clause-master
+shared_at-requires-clause-master c = λ version there.
     let here : slice_get c.args.chosen.now c.args.place ≡ Some c.index-chosen-place.result =
     slice_get_read c.args.chosen.now _ c.args.place c.index-chosen-place.result refl c.requires.within c.index-chosen-place.is in
     let same = some-same c.index-chosen-place.result version (sym here ∙ there) in
@@ -116,7 +117,7 @@ returns c =
     c.event-event.result.now c.zones-zones.result = record { clocks = c.zones-zones.ensures.clocks; is_event = search rules } in
     let own = c.event-event.result.now.uid in
     let mine = own-subject c.requires.chosen (map-in seen c.index-chosen-place.result c.args.chosen.now (get-in _ _ c.args.place here)) r in
-    let named = c.in_ok-replaced.ensures c.index-chosen-place.result here
+    let named = c.in_ok-replaced.ensures.replaced c.index-chosen-place.result here
     ∙ ap (λ (s : SubjectSeen). named_by s.uid (map seen c.args.chosen.now)) mine in
     let replaced = are-replaced (map said_by c.args.files.now) (display_clock c.args.display.now) c.args.chosen.now c.requires.chosen own
     (λ t. ap (λ xs. is_among xs t) named ∙ named-among own t (map seen c.args.chosen.now)) in
@@ -155,6 +156,7 @@ returns c =
       );
       begun = c.in_ok-held.ensures.begun;
       kept = c.take_kept-resting.ensures.rest (map said_by c.args.files.now) (display_clock c.args.display.now) c.requires.kept;
+      shared = c.shared_at.ensures.shared;
     }
 
 pub returns-in_err-held-clause-kept : goal.returns-in_err-held-clause-kept

@@ -5,9 +5,11 @@ use Rattle.ics_starts.specs.Clocks.{display_clock}
 use Rattle.ics_listing.specs.Entry.{key_rank}
 use Rattle.ics_series.specs.Inner.Kept.{AreKept}
 use Rattle.ics_series.specs.Inner.Marks.{AreMarks}
+use Rattle.ics_series.specs.Inner.Shared.{AreShared}
 use Rattle.ics_days.specs.NearPlaces.{AreBelow, AreNear}
 use Rattle.ics_series.specs.Versions.{is_override, seen}
 use Rattle.ics_series.proofs.MarkLemmas.{no-marks}
+use Rattle.ics_series.proofs.SharedLemmas.{shared-none}
 use Rattle.ics_series.proofs.SinglesLemmas.{behind-key}
 use Rattle.ics_series.proofs.SpanLemmas.{no-spans}
 use Rattle.ics_series.proofs.WholeLemmas.{keys, whole}
@@ -43,6 +45,10 @@ of-requires-clause-marks c =
 pub of-requires-clause-kept : goal.of-requires-clause-kept
 of-requires-clause-kept c =
     subst (AreKept (map said_by c.args.files.now) (display_clock c.args.display.now)) (sym c.new-kept.ensures.items) tt
+
+pub of-requires-clause-shared : goal.of-requires-clause-shared
+of-requires-clause-shared c =
+    subst (AreShared (map seen c.deref-2.result.now)) (sym c.new-shared.ensures.items) (shared-none (map seen c.deref-2.result.now))
 
 pub returns : goal.returns
 returns c = record {

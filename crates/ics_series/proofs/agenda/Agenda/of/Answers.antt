@@ -49,4 +49,5 @@ returns c =
       others = c.push_series.ensures.others;
       marks = c.push_series.ensures.marks;
       kept = c.push_series.ensures.kept;
+      shared = c.push_series.ensures.shared;
     }

@@ -69,6 +69,7 @@ invariant_of-self c =
           (subst (AllByRecursion (λ l. IsPartOf files display l.feed)) (sym c.end-leads.ensures.leads)
           (parts-of files display (λ l. l.feed) self.today.agenda.merge.leads.items
           (day-masters scope self.today.day (recurring (agenda_sources self.today.agenda)) are))) self.known);
+      sharing = self.sharing;
       not_before = self.not_before;
       begun = self.begun;
       masters = ∣ no-masters scope self.today.day c.end-leads.ensures.sources ∣₁;

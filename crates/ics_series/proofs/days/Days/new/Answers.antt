@@ -20,18 +20,18 @@ use Rattle.ics_series.proofs.days.Days.new.Goals as goal
 
 pub agenda_of-requires-clause-marks : goal.agenda_of-requires-clause-marks
 agenda_of-requires-clause-marks c =
-    marks-none (map said_by c.args.files.now) (map seen c.deref-4.result.now) c.add_places.new.marks.items c.in_ok-add_places.ensures
+    marks-none (map said_by c.args.files.now) (map seen c.deref-6.result.now) c.add_places.new.marks.items c.in_ok-add_places.ensures
 
 pub agenda_of-requires-clause-overrides : goal.agenda_of-requires-clause-overrides
 agenda_of-requires-clause-overrides c =
-    ap (map seen) c.deref-5.ensures.value
-    ∙ (c.in_ok-overrides.ensures ∙ ap (λ vs. filter is_override (map seen vs)) (c.deref.ensures.value ∙ sym c.deref-4.ensures.value))
+    ap (map seen) c.deref-7.ensures.value
+    ∙ (c.in_ok-overrides.ensures ∙ ap (λ vs. filter is_override (map seen vs)) (c.deref.ensures.value ∙ sym c.deref-6.ensures.value))
 
 pub agenda_of-requires-clause-count : goal.agenda_of-requires-clause-count
 agenda_of-requires-clause-count c =
     c.in_ok-near.ensures.count ∙ (ap length c.deref-3.ensures.value
     ∙ (ap length c.in_ok-spans.ensures
-    ∙ (length-map _ _ ∙ (length-map c.deref-2.result.now seen ∙ ap length (c.deref-2.ensures.value ∙ sym c.deref-4.ensures.value)))))
+    ∙ (length-map _ _ ∙ (length-map c.deref-2.result.now seen ∙ ap length (c.deref-2.ensures.value ∙ sym c.deref-6.ensures.value)))))
 
 pub agenda_of-requires-clause-places : goal.agenda_of-requires-clause-places
 agenda_of-requires-clause-places c = rw c.deref-3.ensures.value at c.in_ok-near.ensures.has
@@ -41,6 +41,9 @@ agenda_of-requires-clause-kept c =
     let files = map said_by c.args.files.now in
     let display = display_clock c.args.display.now in
     c.add_kept.ensures files display (subst (AreKept files display) (sym c.new-kept.ensures.items) tt)
+
+pub agenda_of-requires-clause-shared : goal.agenda_of-requires-clause-shared
+agenda_of-requires-clause-shared c = c.in_ok-shared.ensures (map seen c.deref-6.result.now)
 
 pub returns : goal.returns
 returns c =
@@ -89,9 +92,10 @@ invariant_of-result c =
       reached = c.agenda_of.ensures.places;
       bounded = c.bounds_in-bounds.ensures;
       sized = c.agenda_of.ensures.size ∙ (ap length spanned ∙ (length-map _ _ ∙ length-map _ _));
-      spanned = rw c.deref-4.ensures.value at c.agenda_of.ensures.spans;
-      marked = rw c.deref-4.ensures.value at c.agenda_of.ensures.marks;
+      spanned = rw c.deref-6.ensures.value at c.agenda_of.ensures.spans;
+      marked = rw c.deref-6.ensures.value at c.agenda_of.ensures.marks;
       known = c.agenda_of.ensures.kept;
+      sharing = rw c.deref-6.ensures.value at c.agenda_of.ensures.shared;
       not_before = first;
       begun = rw c.day_and_start.ensures
           (begun-by (first_near c.args.window c.bounds_in-bounds.result) after (to_z w32 (of_z w32 c.begin-day.result.0)) key behind first);

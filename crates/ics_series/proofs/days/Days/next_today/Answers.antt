@@ -59,6 +59,7 @@ invariant_of-self c =
       reached = self.reached;
       marked = self.marked;
       known = self.known;
+      sharing = self.sharing;
       not_before = self.not_before;
       begun = self.begun;
       masters = subst (λ (xs : List Source). ∥ AreDayMasters (scope_of self) self.today.day xs ∥₁) (sym c.next.ensures.sources) self.masters;

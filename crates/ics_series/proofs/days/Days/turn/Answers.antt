@@ -66,6 +66,9 @@ of-requires-clause-chosen c =
     let self = c.args.self.now in
     rw c.deref-4.ensures.value (chosen-back (map said_by self.files.now) (display_clock self.display.now) self.versions.items self.chosen)
 
+pub of-requires-clause-shared : goal.of-requires-clause-shared
+of-requires-clause-shared c = rw c.deref-4.ensures.value c.args.self.now.sharing
+
 pub of-requires-clause-floor : goal.of-requires-clause-floor
 of-requires-clause-floor c = rw (← c.floor_of.ensures) at c.key_near-key.ensures.floor
 
@@ -94,6 +97,7 @@ invariant_of-self c =
       reached = places-same self.places c.reach.new.self self.spans.items c.near_day-near.ensures has none self.reached;
       marked = self.marked;
       known = self.known;
+      sharing = self.sharing;
       not_before = self.not_before;
       begun = self.begun;
       masters = self.masters;
@@ -134,6 +138,7 @@ invariant_of-self-in-Break-branch-2 c =
           (chosen-back files display self.versions.items self.chosen) none;
       marked = rw c.deref-4.ensures.value at c.of.ensures.marks;
       known = c.of.ensures.kept;
+      sharing = rw c.deref-4.ensures.value at c.of.ensures.shared;
       not_before = self.not_before;
       begun = self.begun;
       masters = self.masters;
@@ -172,6 +177,7 @@ invariant_of-self-3 c =
           (omega (arith, ints, day, next.ensures.later));
       marked = rw c.deref-4.ensures.value at c.of.ensures.marks;
       known = c.of.ensures.kept;
+      sharing = rw c.deref-4.ensures.value at c.of.ensures.shared;
       not_before = omega (arith, ints, day, next.ensures.later, self.not_before);
       begun = omega (arith, ints, day, next.ensures.later, begun);
       masters = ∣ masters ∣₁;
