@@ -235,6 +235,13 @@ fn are_made_for(spans: &Option<Spans>, local: Moment) -> bool {
     }
 }
 
+/// The local, in seconds, from which on a search that begins at one asks for stretches: one that began no later may have found that spans save few
+/// questions.
+fn asks_from(known: Stretch, before: Local, from: Local, next: Moment) -> Moment {
+    let may_know = known.to <= known.from && before.seconds() <= from.seconds();
+    if may_know { next.max(known.to) } else { next }
+}
+
 /// A stretch by which a local, given by its seconds, is read: the known one or, if the clock is asked, another. Where new spans are made for few locals
 /// so many seconds apart, none are made for some time.
 fn stretch_at(
@@ -367,6 +374,7 @@ impl<'a> RuleStarts<'a> {
         let day = from.day.min(end);
         let next = Local::at(day, 0).seconds();
         let place = from.number();
+        let asks = asks_from(self.stretch, self.from, from, next);
         self.cursor = begun(self.rule.get(), from, end, mark);
         self.zones = zones;
         self.event = event;
@@ -380,7 +388,7 @@ impl<'a> RuleStarts<'a> {
         self.asked = day;
         self.end = end;
         self.next = next;
-        self.stretch = no_stretch(next);
+        self.stretch = no_stretch(asks);
         self.spans = None;
         self.beyond = Moment::MAX;
         clear(&mut self.held, alloc);
