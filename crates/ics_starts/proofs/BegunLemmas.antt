@@ -58,15 +58,15 @@ module _ (zones : FileZones) (w : Window) (event : Event) where
   clocks = clocks_in zones
 
   -- What is known from the first.
-  start-listed : (s : Start) → IsIn s (listed_of clocks w event) → IsStart clocks event s
-  start-listed s m =
-      let k = listed-in clocks w (counts_from clocks w event) event 0 event.rdates s m in
+  start-listed : (since : ℤ) (s : Start) → IsIn s (listed_of clocks w event since) → IsStart clocks event s
+  start-listed since s m =
+      let k = listed-in clocks w since (counts_from clocks w event since) event 0 event.rdates s m in
       rw k.is (record { gives = (k.rdate, subst (λ i. slice_get event.rdates i ≡ Some k.rdate) (omega arith) k.stands, refl); moment = refl })
 
-  pub start-apart : (o : Option RuleParts) (s : Start) → IsIn s (listed_apart clocks w event o) → IsStart clocks event s
-  start-apart None s (inl e) = rw e (record { gives = (inl refl, refl); moment = refl })
-  start-apart None s (inr m) = start-listed s m
-  start-apart (Some parts) s m = start-listed s m
+  pub start-apart : (since : ℤ) (o : Option RuleParts) (s : Start) → IsIn s (listed_apart clocks w event since o) → IsStart clocks event s
+  start-apart since None s (inl e) = rw e (record { gives = (inl refl, refl); moment = refl })
+  start-apart since None s (inr m) = start-listed since s m
+  start-apart since (Some parts) s m = start-listed since s m
 
   -- What the rule gives.
   start-ruled : {since : ℤ} {listed starts : List Start} (s : Start) → IsTime event.start → IsRuleFrom clocks event w since listed starts
@@ -120,7 +120,7 @@ module _ (zones : FileZones) (w : Window) (event : Event) where
 
   module _ (sound : IsEvent event) (since : ℤ) where
     abbrev by_rdates : List Start
-    by_rdates = listed_of clocks w event
+    by_rdates = listed_of clocks w event since
 
     -- all that is sought from the instant on has a start among these
     abbrev HasSought : List Start → Type 0
@@ -141,7 +141,7 @@ module _ (zones : FileZones) (w : Window) (event : Event) where
           let near = instant-near zones (time_at event.start local) in
           let at = written-at event.start.stamp local in
           let first = kept-first clocks event sound.start local own in
-          let back = sought-from zones w event r.bounds r.bounded (moment local) s in
+          let back = sought-from zones w event since r.bounds r.bounded (moment local) late s in
           let late-least = (late-event zones w event r.bounds r.bounded).0 in
           let begun = local_of event.start.stamp in
           let on : number (local_of event.start.stamp) ≤ number local =
@@ -171,18 +171,18 @@ module _ (zones : FileZones) (w : Window) (event : Event) where
           (⊎_elim
           (λ e. let f : Listed place ≡ Kept (local_of event.start.stamp) = ap (λ (x : Start). x.source) e in absurd cc)
           (λ m. m)
-          (listed-there zones w event place given g (sought-early zones w event (instant clocks (time_of given)) s)
-          (sought-counts zones w event (instant clocks (time_of given)) s (time_of given) refl))))
+          (listed-there zones w event since place given g (sought-early zones w event (instant clocks (time_of given)) s) late
+          (sought-counts zones w event since (instant clocks (time_of given)) late s (time_of given) refl))))
 
     -- Both kinds together.
     abbrev apart : List Start
-    apart = listed_apart clocks w event event.rule
+    apart = listed_apart clocks w event since event.rule
 
     -- where the rule gives starts, the ones that are known from the first are those by RDATEs
     apart-is : {listed starts : List Start} → IsRuleFrom clocks event w since listed starts → apart ≡ by_rdates
     apart-is r = by event.rule refl
       where
-        by : (parts : Option RuleParts) → event.rule ≡ parts → listed_apart clocks w event parts ≡ by_rdates
+        by : (parts : Option RuleParts) → event.rule ≡ parts → listed_apart clocks w event since parts ≡ by_rdates
         by None e = let f : None ≡ Some r.rule = ap (option_map (recurrence_by event.start.stamp)) (sym e) ∙ r.has in absurd cc
         by (Some parts) e = refl
 
@@ -192,14 +192,14 @@ module _ (zones : FileZones) (w : Window) (event : Event) where
     module _ (listed : List Start) (firsts : AreFirsts apart listed) where
       are-starts : (o : Option RuleStarts) → IsRuled clocks event w since apart o → (s : Start) → IsIn s (union moment_cmp (rule_left o) listed) →
           IsStart clocks event s
-      are-starts None r s m = start-apart event.rule s (firsts.are s m)
+      are-starts None r s m = start-apart since event.rule s (firsts.are s m)
       are-starts (Some starts) r s m =
           ⊎_elim (start-ruled s sound.start r)
-          (λ n. start-apart event.rule s (firsts.are s n.1))
+          (λ n. start-apart since event.rule s (firsts.are s n.1))
           (union-in moment_cmp moment_total s (starts_left starts) listed firsts.rises m)
 
       all-by : (o : Option RuleStarts) → IsRuled clocks event w since apart o → HasSought (union moment_cmp (rule_left o) listed)
-      all-by None r = λ source given g s late. firsts.all (start_by clocks source given) (rw r (none-else zones w event r source given g s))
+      all-by None r = λ source given g s late. firsts.all (start_by clocks source given) (rw r (none-else zones w event since r source given g s late))
       all-by (Some starts) r =
           with-ruled (starts_left starts) (by-rdates r) listed (rises-rule (Some starts)) (subst (λ xs. AreFirsts xs listed) (apart-is r) firsts)
 

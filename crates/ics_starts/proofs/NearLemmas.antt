@@ -21,7 +21,7 @@ use Rattle.ics_zone.proofs.Cases.{int_le_false, int_le_true, true_int_le}
 use Rattle.ics_starts.specs.Clocks.{instant}
 use Rattle.ics_starts.specs.Exclusions.{is_among, is_known}
 use Rattle.ics_starts.specs.FileZones.{clocks_in, is_early, is_past}
-use Rattle.ics_starts.specs.Found.{begins_at, counts, is_over, is_running, listed_from, span_local, AreRunning}
+use Rattle.ics_starts.specs.Found.{begins_at, counts, counts_since, is_over, is_running, listed_from, span_local, AreRunning}
 use Rattle.ics_starts.specs.Inner.ByLocal.{count_in, place_in, rdate_locals, AreCounting, AreKnown, AreSpansNear, AreUp, IsSpanNear}
 use Rattle.ics_starts.specs.Inner.ByLocal.{AreNext, HasSooner}
 use Rattle.ics_starts.specs.Quiet.{IsAgain}
@@ -30,6 +30,10 @@ use Rattle.ics_starts.specs.declared.by_local.Places.{Places}
 use Rattle.ics_starts.specs.declared.zones.FileZones.{FileZones}
 use Rattle.ics_starts.proofs.InstantLemmas.{instant-near}
 use Rattle.ics_starts.proofs.SoughtLemmas.{listed-step}
+
+-- what holds of two instants holds of the same ones
+pub both-back : (P : ℤ → ℤ → Type 0) {a b x y : ℤ} → a ≡ x → b ≡ y → P a b → P x y
+both-back P {b = b} {x = x} p q h = subst (P x) q (subst (λ t. P t b) p h)
 
 -- a value among those of a list that passes a test stands at a place
 record IsPassing {A : Type 0} (test : A → Bool) (xs : List A) : Type 0 where
@@ -81,45 +85,46 @@ module _ (event : Event) where
   pub within-rdates : (place : ℕ) → place < length (rdate_locals event) → place < length event.rdates
   within-rdates place l = subst (λ n. place < n) (length-map event.rdates (λ r. stamp_seconds (time r).stamp)) l
 
-module _ (clocks : Clocks) (w : Window) (from : ℤ) (event : Event) where
+module _ (clocks : Clocks) (w : Window) (since from : ℤ) (event : Event) where
   -- whether the start by a value counts
   abbrev value_counts : Rdate → Bool
-  value_counts r = counts w from (time_of (given_by event.start r)) (is_running clocks w event (instant clocks (time_of (given_by event.start r))))
+  value_counts r = counts_since clocks w event since from (time_of (given_by event.start r))
 
   -- so many values from a place on give nothing, if none of them counts
   none-of : (n next : ℕ) → next + n ≤ length event.rdates
       → ((k : ℕ) (r : Rdate) → next ≤ k → k < next + n → slice_get event.rdates k ≡ Some r → value_counts r ≡ false)
-      → listed_from clocks w from event next (drop next event.rdates) ≡ listed_from clocks w from event (next + n) (drop (next + n) event.rdates)
-  none-of zero next l h = ap (λ p. listed_from clocks w from event p (drop p event.rdates)) (omega arith)
+      → listed_from clocks w since from event next (drop next event.rdates) ≡ listed_from clocks w since from event (next + n) (drop (next + n) event.rdates)
+  none-of zero next l h = ap (λ p. listed_from clocks w since from event p (drop p event.rdates)) (omega arith)
   none-of (suc n) next l h =
       ⊎_elim
-      (λ s. listed-step clocks w from event next event.rdates {r = s.0} false s.1 (sym s.3) (h next s.0 (omega arith) (omega arith) s.2)
+      (λ s. listed-step clocks w since from event next event.rdates {r = s.0} false s.1 (sym s.3) (h next s.0 (omega arith) (omega arith) s.2)
       ∙ (none-of n (next + 1) (omega (arith, l)) (λ k r on below. h k r (omega (arith, on)) (omega (arith, below)))
-      ∙ ap (λ p. listed_from clocks w from event p (drop p event.rdates)) (omega arith)))
+      ∙ ap (λ p. listed_from clocks w since from event p (drop p event.rdates)) (omega arith)))
       (λ o. absurd (omega (arith, l, o.0)))
       (slice_get_cases event.rdates next).1
 
   -- the same of the values from a place on and before another
   none-between : (next place : ℕ) → next ≤ place → place ≤ length event.rdates
       → ((k : ℕ) (r : Rdate) → next ≤ k → k < place → slice_get event.rdates k ≡ Some r → value_counts r ≡ true → ⊥)
-      → listed_from clocks w from event next (drop next event.rdates) ≡ listed_from clocks w from event place (drop place event.rdates)
+      → listed_from clocks w since from event next (drop next event.rdates) ≡ listed_from clocks w since from event place (drop place event.rdates)
   none-between next place l u h =
       none-of (place - next) next (omega (arith, l, u))
       (λ k r on below stands. false_from_ne_true (value_counts r) (h k r on (omega (arith, l, below)) stands))
-      ∙ ap (λ p. listed_from clocks w from event p (drop p event.rdates)) (omega (arith, l))
+      ∙ ap (λ p. listed_from clocks w since from event p (drop p event.rdates)) (omega (arith, l))
 
 -- All of the values that count are at some places in order, and so many of these are before the next.
-pub record ArePassed (clocks : Clocks) (w : Window) (from : ℤ) (event : Event) (near : Places) (k next : ℕ) : Type 0 where
-  pub counting : AreCounting clocks w event from near
+pub record ArePassed (clocks : Clocks) (w : Window) (since from : ℤ) (event : Event) (near : Places) (k next : ℕ) : Type 0 where
+  pub counting : AreCounting clocks w event since from near
   pub up : AreUp (count_in near) (place_in near)
   pub passed : (j : ℕ) → j < k → place_in near j < next
 
-module _ {clocks : Clocks} {w : Window} {from : ℤ} {event : Event} {near : Places} {k next : ℕ} (passed : ArePassed clocks w from event near k next) where
+module _ {clocks : Clocks} {w : Window} {since from : ℤ} {event : Event} {near : Places} {k next : ℕ}
+    (passed : ArePassed clocks w since from event near k next) where
   -- so the values from the next on and before the next place give nothing
   pub to-place : (place : ℕ) → next ≤ place → place ≡ place_in near k → k < count_in near
-      → listed_from clocks w from event next (drop next event.rdates) ≡ listed_from clocks w from event place (drop place event.rdates)
+      → listed_from clocks w since from event next (drop next event.rdates) ≡ listed_from clocks w since from event place (drop place event.rdates)
   to-place place on is l =
-      none-between clocks w from event next place on (let inside = passed.counting.within k l in omega (arith, inside, is))
+      none-between clocks w since from event next place on (let inside = passed.counting.within k l in omega (arith, inside, is))
       (λ i r low high stands e.
       let there = passed.counting.all i r stands e in
       elim (cases_lt there.k k) [
@@ -128,14 +133,14 @@ module _ {clocks : Clocks} {w : Window} {from : ℤ} {event : Event} {near : Pla
       ])
 
   -- and those from the next on give nothing after all places
-  pub to-end : next ≤ length event.rdates → count_in near ≤ k → listed_from clocks w from event next (drop next event.rdates) ≡ []
+  pub to-end : next ≤ length event.rdates → count_in near ≤ k → listed_from clocks w since from event next (drop next event.rdates) ≡ []
   to-end on all =
-      none-between clocks w from event next (length event.rdates) on (omega arith)
+      none-between clocks w since from event next (length event.rdates) on (omega arith)
       (λ i r low high stands e.
       let there = passed.counting.all i r stands e in
       let behind = passed.passed there.k (omega (arith, there.within, all)) in
       omega (arith, behind, there.is, low))
-      ∙ ap (listed_from clocks w from event (length event.rdates)) (drop_all (length event.rdates) event.rdates (omega arith))
+      ∙ ap (listed_from clocks w since from event (length event.rdates)) (drop_all (length event.rdates) event.rdates (omega arith))
 
 -- an instant that is known, before the window's end and less than four days from a local
 record IsKnownNear (w : Window) (from : ℤ) (running : List ℤ) (local : ℤ) : Type 0 where
@@ -200,14 +205,16 @@ module _ (zones : FileZones) (w : Window) where
       lasts true false p q h = inr (let past = int_le_false (span_local start length) (w.from -ℤ whole_days 6) q in omega (arith, ints, past, far.0))
       lasts false b p q h = inl (let past = int_le_false (stamp_seconds start.stamp) (w.from -ℤ whole_days 6) p in omega (arith, ints, past, far.0))
 
-  module _ (event : Event) {from : ℤ} {running : List ℤ} (are : AreRunning clocks-here w event from running) (soon : from <ℤ w.to) where
+  module _ (event : Event) {since from : ℤ} {running : List ℤ} (are : AreRunning clocks-here w event since from running) (soon : from <ℤ w.to) where
     -- there is one for the local of a value that counts: if it is early, the value's instant is one of those at which PERIODs begin
-    counting-local : (t : Time) → counts w from t (is_running clocks-here w event (instant clocks-here t)) ≡ true
-        → IsKnownNear w from running (stamp_seconds t.stamp)
-    counting-local t e = by (is_early from t) (is_past w t) refl refl e
+    counting-local : (t : Time) → counts_since clocks-here w event since from t ≡ true → IsKnownNear w from running (stamp_seconds t.stamp)
+    counting-local t e = by (is_early from t) (is_past w t) refl refl parts.1
       where
         moment : ℤ
         moment = instant clocks-here t
+
+        parts : (int_le since moment ≡ true) × (counts w from t (is_running clocks-here w event moment) ≡ true)
+        parts = and_parts (int_le since moment) (counts w from t (is_running clocks-here w event moment)) e
 
         by : (b past : Bool) → is_early from t ≡ b → is_past w t ≡ past → (if b then is_running clocks-here w event moment else not past) ≡ true
             → IsKnownNear w from running (stamp_seconds t.stamp)
@@ -216,7 +223,7 @@ module _ (zones : FileZones) (w : Window) where
             let near = instant-near zones t in
             record {
               t = moment;
-              known = or_right (int_le from moment) (is_among running moment) (are moment (omega (arith, ints, before, near)) ∙ h);
+              known = or_right (int_le from moment) (is_among running moment) (are moment (int_le_true since moment parts.0) (omega (arith, ints, before, near)) ∙ h);
               early = omega (arith, ints, before, near, soon);
               low = omega (arith, ints, near);
               high = omega (arith, ints, near);
@@ -227,7 +234,7 @@ module _ (zones : FileZones) (w : Window) where
             (int_le_false (w.to +ℤ whole_days 2) (stamp_seconds t.stamp) q)
 
     -- so all that count are among the places of those near instants that are known
-    pub counting-near : {near : Places} → AreKnown (rdate_locals event) from running w.to near → AreCounting clocks-here w event from near
+    pub counting-near : {near : Places} → AreKnown (rdate_locals event) from running w.to near → AreCounting clocks-here w event since from near
     counting-near {near = near} all = record {
       within = λ k l. within-rdates event (place_in near k) (all.within k l);
       all = λ place rdate stands e.

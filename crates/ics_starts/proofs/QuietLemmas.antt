@@ -150,14 +150,14 @@ module _ (zones : FileZones) (event : Event) (own : IsOwnEvent zones event) (w :
       → (at-local local <ℤ w.to) ⊎ (at-local local <ℤ since)
   too-early s rule local by day early =
       let first = kept-first (clocks_in zones) event own.is_event.start local by in
-      let soon = earliest-soon zones w event (listed_apart (clocks_in zones) w event event.rule) in
+      let soon = earliest-soon zones w event (listed_apart (clocks_in zones) w event since event.rule) in
       let begun = local_of event.start.stamp in
       let on : number (local_of event.start.stamp) ≤ number local =
       omega (arith, ints, first, number-seconds begun (calendar-day begun.day (own-day event.start own.is_event.start)), number-seconds local day) in
       let same : moment_numbered (clocks_in zones) event (number local) ≡ at-local local = ap at-local (numbered-number local day) in
       let low = rule.low (number local) on early in
       let before : at-local local <ℤ first_of (clocks_in zones) w event since = omega (arith, ints, low, same) in
-      elim (int_max_cases (at-local local) (earliest (clocks_in zones) w event (listed_apart (clocks_in zones) w event event.rule))
+      elim (int_max_cases (at-local local) (earliest (clocks_in zones) w event (listed_apart (clocks_in zones) w event since event.rule))
       (int_min since (w.to +ℤ whole_days 14)) before) [ inl a ↦ inl (omega (arith, ints, a, soon)) | inr b ↦ inr (omega (arith, ints, b, int_min_is)) ]
     where
       int_max_cases : (x a b : ℤ) → x <ℤ int_max a b → (x <ℤ a) ⊎ (x <ℤ b)

@@ -1,7 +1,7 @@
 -- The starts by which an event can meet a window, as they are found.
 use Rattle.std.specs.Prelude.{◌≡◌, ◌<ℤ◌, ◌≤ℤ◌, ◌+ℤ◌, ◌-ℤ◌, ℕ, ◌+◌, ◌*◌, ℤ, pos, Bool, true, false, ◌&&◌, not, int_le, int_lt, List, [], ◌∷◌, length}
 use Rattle.std.specs.Prelude.{Option, Some, None, if◌then◌else◌}
-use Rattle.std.specs.Int.{int_min}
+use Rattle.std.specs.Int.{int_max, int_min}
 use Rattle.std.specs.List.{list_any}
 use Rattle.std.specs.Ordering.{int_eq}
 use Rattle.ics_fields.specs.declared.local.Local.{Local}
@@ -114,9 +114,9 @@ begins_at clocks w t (Span start length) = not (is_over w start length) && int_e
 abbrev pub is_running : Clocks → Window → Event → ℤ → Bool
 is_running clocks w event t = list_any (λ rdate. begins_at clocks w t (given_by event.start rdate)) event.rdates
 
--- Of the instants before one, these are those at which a PERIOD of the event begins that is not over.
-abbrev pub AreRunning : Clocks → Window → Event → ℤ → List ℤ → Type 0
-AreRunning clocks w event from running = (t : ℤ) → t <ℤ from → is_among running t ≡ is_running clocks w event t
+-- Of the instants from one on and before another, these are those at which a PERIOD of the event begins that is not over.
+abbrev pub AreRunning : Clocks → Window → Event → ℤ → ℤ → List ℤ → Type 0
+AreRunning clocks w event since from running = (t : ℤ) → since ≤ℤ t → t <ℤ from → is_among running t ≡ is_running clocks w event t
 
 -- an instant is between two others
 abbrev pub is_between : ℤ → ℤ → ℤ → Bool
@@ -127,18 +127,24 @@ is_between from to t = int_lt from t && int_lt t to
 abbrev pub counts : Window → ℤ → Time → Bool → Bool
 counts w from time running = if is_early from time then running else not (is_past w time)
 
--- the starts that count of those that the values of RDATEs give, which are the values from a place on
-abbrev pub listed_from : Clocks → Window → ℤ → Event → ℕ → List Rdate → List Start
-listed_from clocks w from event place [] = []
-listed_from clocks w from event place (rdate ∷ rdates) =
-    let given = given_by event.start rdate in
-    with_front (counts w from (time_of given) (is_running clocks w event (instant clocks (time_of given)))) (start_by clocks (Listed place) given)
-    (listed_from clocks w from event (place + 1) rdates)
+-- the start at a time counts, and is at an instant or later
+abbrev pub counts_since : Clocks → Window → Event → ℤ → ℤ → Time → Bool
+counts_since clocks w event since from time =
+    let t = instant clocks time in
+    int_le since t && counts w from time (is_running clocks w event t)
 
--- The instant from which on the starts by RDATEs count: four days before the first at which an event of this length can meet the window, since by the clock
--- it can end as late as if it began so much later.
-abbrev pub counts_from : Clocks → Window → Event → ℤ
-counts_from clocks w event = first_met clocks w event -ℤ whole_days 4
+-- the starts that count of those that the values of RDATEs give from an instant on, which are the values from a place on
+abbrev pub listed_from : Clocks → Window → ℤ → ℤ → Event → ℕ → List Rdate → List Start
+listed_from clocks w since from event place [] = []
+listed_from clocks w since from event place (rdate ∷ rdates) =
+    let given = given_by event.start rdate in
+    with_front (counts_since clocks w event since from (time_of given)) (start_by clocks (Listed place) given)
+    (listed_from clocks w since from event (place + 1) rdates)
+
+-- The instant from which on the starts by RDATEs count, if those from an instant on are asked for: that one or, if it is later, four days before the first
+-- at which an event of this length can meet the window, since by the clock it can end as late as if it began so much later. It is before the window's end.
+abbrev pub counts_from : Clocks → Window → Event → ℤ → ℤ
+counts_from clocks w event since = int_max (first_met clocks w event -ℤ whole_days 4) (int_min since (w.to -ℤ pos 1))
 
 -- The instant from which on the rule is read: the first at which an event of this length can meet the window or, if it is earlier, the
 -- earliest start by a PERIOD that meets it, since a local at that instant gives it the event's length.

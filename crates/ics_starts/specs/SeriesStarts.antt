@@ -84,14 +84,14 @@ AreEnded t old new = ArePassed (IsEarlier t) old new
 abbrev pub AreLeapt : ℤ → ℤ → Option RuleStarts → Option RuleStarts → Type 0
 AreLeapt t u old new = ArePassed (IsAmid t u) old new
 
--- the starts by RDATEs that count
-abbrev pub listed_of : Clocks → Window → Event → List Start
-listed_of clocks w event = listed_from clocks w (counts_from clocks w event) event 0 event.rdates
+-- the starts by RDATEs from an instant on that count
+abbrev pub listed_of : Clocks → Window → Event → ℤ → List Start
+listed_of clocks w event since = listed_from clocks w since (counts_from clocks w event since) event 0 event.rdates
 
 -- the starts that are known from the beginning: those by RDATEs and, if there is no rule, the one at DTSTART
-abbrev pub listed_apart : Clocks → Window → Event → Option RuleParts → List Start
-listed_apart clocks w event None = start_at clocks event (local_of event.start.stamp) ∷ listed_of clocks w event
-listed_apart clocks w event (Some parts) = listed_of clocks w event
+abbrev pub listed_apart : Clocks → Window → Event → ℤ → Option RuleParts → List Start
+listed_apart clocks w event since None = start_at clocks event (local_of event.start.stamp) ∷ listed_of clocks w event since
+listed_apart clocks w event since (Some parts) = listed_of clocks w event since
 
 -- The instant from which on starts are needed. None is at the window's end or later, so that two weeks past it will do for all later instants.
 abbrev pub first_asked : Clocks → Window → Event → ℤ → List Start → ℤ
@@ -139,7 +139,7 @@ HasOwnRule zones event w first (Some s) = IsOwnRule zones event w first s
 
 -- the instant from which on a series needs starts
 abbrev pub first_of : Clocks → Window → Event → ℤ → ℤ
-first_of clocks w event since = first_asked clocks w event since (listed_apart clocks w event event.rule)
+first_of clocks w event since = first_asked clocks w event since (listed_apart clocks w event since event.rule)
 
 -- an EXDATE removes a start at this instant, or others replace it
 abbrev pub is_left_out : Clocks → Event → List ℤ → ℤ → Bool

@@ -67,6 +67,14 @@ impl Exclusions {
     {
         let mut instants = Vec::new(alloc);
         let mut days = Vec::new(alloc);
+        if event.exdates.is_empty() {
+            return Ok(Exclusions {
+                from,
+                running,
+                instants,
+                days,
+            });
+        }
         let given = near_exdates(alloc, dates, event, from, &running, window.to)?;
         let near = or_all(&given, event.exdates.len());
         for k in 0..near.count() {

@@ -1,6 +1,7 @@
 //! The starts that RDATEs give.
-ghost use Rattle.std.specs.Prelude.{◌≡◌, ◌≤ℤ◌, ◌<ℤ◌, ◌-ℤ◌, ◌||◌, ◌++◌, ℤ, if◌then◌else◌, IfOk, None, Some};
+ghost use Rattle.std.specs.Prelude.{◌≡◌, ◌≤ℤ◌, ◌<ℤ◌, ◌-ℤ◌, ◌||◌, ◌++◌, ℤ, pos, if◌then◌else◌, IfOk, None, Some};
 ghost use Rattle.std.specs.List.{list_any};
+ghost use Rattle.std.specs.Int.{int_max, int_min};
 ghost use Rattle.std.specs.List.Sorted.{IsSorted};
 ghost use Rattle.std.specs.Ordering.{int_cmp};
 ghost use Rattle.ics_event.specs.Event.{IsRdate, IsSpan};
@@ -60,47 +61,54 @@ fn is_over(start: Time, length: Length, window: &Window) -> bool
     local_of(start.stamp).seconds() <= by && span_local(start, length) <= by
 }
 
-/// The instant from which on the starts by the RDATEs of an event count: four days before the first at which an event of its length can meet the
-/// window, which is given.
-pub(crate) fn counts_from(met: Moment) -> Moment
+/// The instant from which on the starts by the RDATEs of an event count, if those from an instant on are asked for: that one or, if it is later, four
+/// days before the first at which an event of its length can meet the window, which is given.
+pub(crate) fn counts_from(met: Moment, since: Moment, window: &Window) -> Moment
     requires { (occurrence_first -ℤ lasts_most) ≤ℤ met }
-    ensures { result ≡ (met -ℤ whole_days 4) }
+    ensures { result ≡ int_max (met -ℤ whole_days 4) (int_min since (window.now.to -ℤ pos 1)) }
 {
-    met - FOUR_DAYS
+    let last = window.to - 1;
+    (met - FOUR_DAYS).max(since.min(last))
 }
 
-/// Adds the instant at which a PERIOD begins, if it is not over and can begin before an instant.
+/// Adds the instant at which a PERIOD begins, if it is not over, begins at an instant or later and can begin before another.
 fn push_running(
     running: &mut Vec<Moment>,
     zones: FileZones<'_>,
     known: &mut ClockStretches,
     given: Rdate,
     window: &Window,
+    since: Moment,
     from: Moment,
 ) -> Result<(), AllocError>
     requires value { IsRdate given }
     requires time { IsTimeOf zones.zones.now (time_of given) }
     requires known { AreKnown (clocks_in zones) known.old }
     ensures known { AreKnown (clocks_in zones.entry) known.new }
-    ensures running { IfOk result (λ _. (t : ℤ) → t <ℤ from → is_among running.new.items t
+    ensures running { IfOk result (λ _. (t : ℤ) → since ≤ℤ t → t <ℤ from → is_among running.new.items t
         ≡ (is_among running.old.items t || begins_at (clocks_in zones.entry) window.now t given)) }
 {
     if let Rdate::Span(start, length) = given {
         let begun = local_of(start.stamp).seconds() - TWO_DAYS < from;
         if begun && !is_over(start, length, window) {
-            running.push(instant_by(zones, start, known))?;
+            let moment = instant_by(zones, start, known);
+            if since <= moment {
+                running.push(moment)?;
+            }
         }
     }
     Ok(())
 }
 
-/// The instants before one at which PERIODs of an event begin that are not over, in order. There may be others, which are not before it.
+/// The instants from one on and before another at which PERIODs of an event begin that are not over, in order. There may be others, which are not
+/// before the second.
 pub(crate) fn running(
     alloc: Global,
     zones: FileZones<'_>,
     known: &mut ClockStretches,
     event: &Event,
     window: &Window,
+    since: Moment,
     from: Moment,
     dates: &Option<Box<DatesByLocal>>,
 ) -> Result<Vec<Moment>, AllocError>
@@ -110,9 +118,12 @@ pub(crate) fn running(
     requires dates { HasDates event.now dates.now }
     ensures known { AreKnown (clocks_in zones.entry) known.new }
     ensures order { IfOk result (λ running. IsSorted int_cmp running.items) }
-    ensures are { IfOk result (λ running. AreRunning (clocks_in zones.entry) window.now event.now from running.items) }
+    ensures are { IfOk result (λ running. AreRunning (clocks_in zones.entry) window.now event.now since from running.items) }
 {
     let mut running = Vec::new(alloc);
+    if from <= since {
+        return Ok(running);
+    }
     let near = near_spans(dates, event, window.from - OVER, from + TWO_DAYS);
     for k in 0..near.count() {
         push_running(
@@ -121,6 +132,7 @@ pub(crate) fn running(
             known,
             given_by(event.start, event.rdates[near.at(k)]),
             window,
+            since,
             from,
         )?;
     }
@@ -213,7 +225,7 @@ pub(crate) fn counted(
     Some(instant(zones, time))
 }
 
-/// Adds the starts that the RDATEs of an event give and that count, from an instant on.
+/// Adds the starts from an instant on that the RDATEs of an event give and that count.
 pub(crate) fn push_listed(
     alloc: Global,
     starts: &mut Vec<Start>,
@@ -221,6 +233,7 @@ pub(crate) fn push_listed(
     known: &mut ClockStretches,
     event: &Event,
     window: &Window,
+    since: Moment,
     from: Moment,
     running: &[Moment],
     dates: &Option<Box<DatesByLocal>>,
@@ -228,25 +241,28 @@ pub(crate) fn push_listed(
     requires event { IsOwnEvent zones event.now }
     requires known { AreKnown (clocks_in zones) known.old }
     requires order { IsSorted int_cmp running.now }
-    requires running { AreRunning (clocks_in zones) window.now event.now from running.now }
+    requires running { AreRunning (clocks_in zones) window.now event.now since from running.now }
     requires soon { from <ℤ window.now.to }
     requires dates { HasDates event.now dates.now }
     ensures known { AreKnown (clocks_in zones.entry) known.new }
     ensures starts { IfOk result (λ _. starts.new.items
-        ≡ starts.old.items ++ listed_from (clocks_in zones.entry) window.now from event.now 0 event.now.rdates) }
+        ≡ starts.old.items ++ listed_from (clocks_in zones.entry) window.now since from event.now 0 event.now.rdates) }
 {
     let given = near_rdates(alloc, dates, event, from, running, window.to)?;
     let near = or_all(&given, event.rdates.len());
-    push_at(starts, zones, known, event, window, from, running, near)
+    push_at(
+        starts, zones, known, event, window, since, from, running, near,
+    )
 }
 
-/// Adds those of the values at some places in order, which are all that count.
+/// Adds those from an instant on of the values at some places in order, which are all that count.
 fn push_at(
     starts: &mut Vec<Start>,
     zones: FileZones<'_>,
     known: &mut ClockStretches,
     event: &Event,
     window: &Window,
+    since: Moment,
     from: Moment,
     running: &[Moment],
     near: Places<'_>,
@@ -254,12 +270,12 @@ fn push_at(
     requires event { IsOwnEvent zones event.now }
     requires known { AreKnown (clocks_in zones) known.old }
     requires order { IsSorted int_cmp running.now }
-    requires running { AreRunning (clocks_in zones) window.now event.now from running.now }
+    requires running { AreRunning (clocks_in zones) window.now event.now since from running.now }
     requires up { AreUp (count_in near) (place_in near) }
-    requires counting { AreCounting (clocks_in zones) window.now event.now from near }
+    requires counting { AreCounting (clocks_in zones) window.now event.now since from near }
     ensures known { AreKnown (clocks_in zones.entry) known.new }
     ensures starts { IfOk result (λ _. starts.new.items
-        ≡ starts.old.items ++ listed_from (clocks_in zones.entry) window.now from event.now 0 event.now.rdates) }
+        ≡ starts.old.items ++ listed_from (clocks_in zones.entry) window.now since from event.now 0 event.now.rdates) }
 {
     let mut next = 0;
     for k in 0..near.count() {
@@ -272,6 +288,9 @@ fn push_at(
         let Some(moment) = counted(zones, known, time_of(given), window, from, running) else {
             continue;
         };
+        if moment < since {
+            continue;
+        }
         starts.push(Start {
             moment,
             source: StartSource::Listed(place),

@@ -97,7 +97,7 @@ pub struct Series<'a> {
             (given_of (clocks_in zones) window event.now since replaced (left rule_starts listed)) },
 }
 
-/// The starts that are known from the beginning: those by RDATEs and, if there is no rule, the one at
+/// The starts that are known from the beginning: those by RDATEs from an instant on and, if there is no rule, the one at
 /// DTSTART. A rule keeps DTSTART.
 fn listed_apart(
     alloc: Global,
@@ -105,6 +105,7 @@ fn listed_apart(
     known: &mut ClockStretches,
     event: &Event,
     window: &Window,
+    since: Moment,
     from: Moment,
     running: &[Moment],
     dates: &Option<Box<DatesByLocal>>,
@@ -112,12 +113,12 @@ fn listed_apart(
     requires event { IsOwnEvent zones event.now }
     requires known { AreKnown (clocks_in zones) known.old }
     requires dates { HasDates event.now dates.now }
-    requires from { from ≡ counts_from (clocks_in zones) window.now event.now }
+    requires from { from ≡ counts_from (clocks_in zones) window.now event.now since }
     requires soon { from <ℤ window.now.to }
     requires order { IsSorted int_cmp running.now }
-    requires running { AreRunning (clocks_in zones) window.now event.now from running.now }
+    requires running { AreRunning (clocks_in zones) window.now event.now since from running.now }
     ensures known { AreKnown (clocks_in zones.entry) known.new }
-    ensures starts { IfOk result (λ starts. starts.items ≡ listed_apart (clocks_in zones.entry) window.now event.now event.now.rule) }
+    ensures starts { IfOk result (λ starts. starts.items ≡ listed_apart (clocks_in zones.entry) window.now event.now since event.now.rule) }
 {
     let mut starts = Vec::new(alloc);
     if event.rule.is_none() {
@@ -130,11 +131,44 @@ fn listed_apart(
         known,
         event,
         window,
+        since,
         from,
         running,
         dates,
     )?;
     Ok(starts)
+}
+
+/// The starts of an event that are known from the beginning, and what its EXDATEs remove. The first instant at which an event of its length can meet the
+/// window is given.
+fn lists_of(
+    alloc: Global,
+    zones: FileZones<'_>,
+    event: &Event,
+    window: &Window,
+    since: Moment,
+    met: Moment,
+    dates: &Option<Box<DatesByLocal>>,
+) -> Result<(Vec<Start>, Exclusions), AllocError>
+    requires event { IsOwnEvent zones event.now }
+    requires dates { HasDates event.now dates.now }
+    requires met { met ≡ first_met (clocks_in zones) window.now event.now }
+    requires late { (occurrence_first -ℤ lasts_most) ≤ℤ met }
+    requires early { met ≤ℤ window.now.from }
+    ensures starts { IfOk result (λ given. given.0.items ≡ listed_apart (clocks_in zones.entry) window.now event.now since event.now.rule) }
+    ensures exclusions { IfOk result (λ given. AreExclusions (clocks_in zones.entry) event.now window.now
+        given.1.from given.1.running.items given.1.instants.items given.1.days.items) }
+{
+    let from = counts_from(met, since, window);
+    let mut known = ClockStretches::none();
+    let running = running(alloc, zones, &mut known, event, window, since, from, dates)?;
+    let listed = listed_apart(
+        alloc, zones, &mut known, event, window, since, from, &running, dates,
+    )?;
+    let exclusions = Exclusions::new(
+        alloc, zones, &mut known, event, window, from, running, dates,
+    )?;
+    Ok((listed, exclusions))
 }
 
 /// The rule of an event, which has these parts: the one that is kept, if there is one.
@@ -454,16 +488,8 @@ impl<'a> Series<'a> {
         ensures begun { IfOk result (λ series. MatchOption series.rule_starts (Unit {0}) (λ s. IsBegun s.rule s.from s.cursor)) }
     {
         let met = first_met(zones, event, &window);
-        let from = counts_from(met);
         let dates = None;
-        let mut known = ClockStretches::none();
-        let running = running(alloc, zones, &mut known, event, &window, from, &dates)?;
-        let listed = listed_apart(
-            alloc, zones, &mut known, event, &window, from, &running, &dates,
-        )?;
-        let exclusions = Exclusions::new(
-            alloc, zones, &mut known, event, &window, from, running, &dates,
-        )?;
+        let (listed, exclusions) = lists_of(alloc, zones, event, &window, since, met, &dates)?;
         let rule_starts = starts_by_rule(
             alloc, zones, event, window, since, met, &listed, mark, keeps,
         )?;
@@ -505,16 +531,7 @@ impl<'a> Series<'a> {
     {
         self.place_dates(alloc)?;
         let met = first_met(zones, event, &window);
-        let from = counts_from(met);
-        let mut known = ClockStretches::none();
-        let dates = &self.dates;
-        let running = running(alloc, zones, &mut known, event, &window, from, dates)?;
-        let listed = listed_apart(
-            alloc, zones, &mut known, event, &window, from, &running, dates,
-        )?;
-        let exclusions = Exclusions::new(
-            alloc, zones, &mut known, event, &window, from, running, dates,
-        )?;
+        let (listed, exclusions) = lists_of(alloc, zones, event, &window, since, met, &self.dates)?;
         let begin = begin_of_rule(zones, event, &window, since, met, &listed);
         let starts = ListedStarts::new(alloc, listed)?;
         begin_again(

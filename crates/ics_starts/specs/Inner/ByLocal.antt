@@ -16,9 +16,8 @@ use Rattle.ics_listing.specs.Listing.{IsIn}
 use Rattle.ics_listing.specs.StartTimes.{time_of}
 use Rattle.ics_listing.specs.FileClocks.{Clocks}
 use Rattle.ics_listing.specs.declared.window.Window.{Window}
-use Rattle.ics_starts.specs.Clocks.{instant}
 use Rattle.ics_starts.specs.Exclusions.{is_known}
-use Rattle.ics_starts.specs.Found.{counts, is_running, span_local}
+use Rattle.ics_starts.specs.Found.{counts_since, span_local}
 use Rattle.ics_starts.specs.Starts.{given_by}
 use Rattle.ics_starts.specs.declared.by_local.DatesByLocal.{DatesByLocal}
 use Rattle.ics_starts.specs.declared.by_local.PlacedLocal.{PlacedLocal}
@@ -146,11 +145,11 @@ pub record AreSpansNear (event : Event) (by to : ℤ) (places : Places) : Type 0
   pub all : (place : ℕ) (rdate : Rdate) → slice_get event.rdates place ≡ Some rdate → IsSpanNear by to (given_by event.start rdate)
       → IsAmongPlaces (count_in places) (place_in places) place
 
--- places of the event's RDATEs: all whose starts count are among them
-pub record AreCounting (clocks : Clocks) (w : Window) (event : Event) (from : ℤ) (places : Places) : Type 0 where
+-- places of the event's RDATEs: all whose starts count, from an instant on, are among them
+pub record AreCounting (clocks : Clocks) (w : Window) (event : Event) (since from : ℤ) (places : Places) : Type 0 where
   pub within : (k : ℕ) → k < count_in places → place_in places k < length event.rdates
-  pub all : (place : ℕ) (rdate : Rdate) → slice_get event.rdates place ≡ Some rdate → let time = time_of (given_by event.start rdate) in
-      counts w from time (is_running clocks w event (instant clocks time)) ≡ true → IsAmongPlaces (count_in places) (place_in places) place
+  pub all : (place : ℕ) (rdate : Rdate) → slice_get event.rdates place ≡ Some rdate →
+      counts_since clocks w event since from (time_of (given_by event.start rdate)) ≡ true → IsAmongPlaces (count_in places) (place_in places) place
 
 -- these are the dates of an event
 pub record AreDatesOf (event : Event) (dates : DatesByLocal) : Type 0 where

@@ -12,6 +12,6 @@ invariant-loop-k l = record {
   within : l.next ≤ length l.event.rdates;
   passed : (j : ℕ) → j < l.k → place_in l.near j < l.next;
   starts :
-      l.starts.items ++ listed_from (clocks_in l.zones) l.window l.from l.event l.next (drop l.next l.event.rdates)
-      ≡ l.initial.starts.items ++ listed_from (clocks_in l.zones) l.window l.from l.event 0 l.event.rdates;
+      l.starts.items ++ listed_from (clocks_in l.zones) l.window l.since l.from l.event l.next (drop l.next l.event.rdates)
+      ≡ l.initial.starts.items ++ listed_from (clocks_in l.zones) l.window l.since l.from l.event 0 l.event.rdates;
 }

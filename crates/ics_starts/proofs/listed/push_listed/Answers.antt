@@ -1,4 +1,4 @@
-use Rattle.std.proofs.Common.{◌≡◌, ◌++◌, ℕ, length, sym, ◌∙◌, ap, subst, arith, to_z, of_z, w64}
+use Rattle.std.proofs.Common.{◌≡◌, ◌++◌, ℕ, length, sym, ◌∙◌, ap, arith, subst, to_z, of_z, w64}
 use Rattle.std.specs.Result.{IfOk}
 use Rattle.std.proofs.lemmas.Int.{ints}
 use Rattle.std.proofs.lemmas.List.{length-map}
@@ -9,7 +9,7 @@ use Rattle.ics_starts.specs.FileZones.{clocks_in}
 use Rattle.ics_starts.specs.Found.{listed_from, AreRunning}
 use Rattle.ics_starts.specs.Inner.ByLocal.{local_in, rdate_locals, AreKnown}
 use Rattle.ics_starts.specs.Starts.{given_by}
-use Rattle.ics_starts.proofs.NearLemmas.{counting-near}
+use Rattle.ics_starts.proofs.NearLemmas.{both-back, counting-near}
 use Rattle.ics_starts.proofs.listed.push_listed.Goals as goal
 
 -- there are as many locals as RDATEs
@@ -34,7 +34,9 @@ push_at-requires-clause-counting c =
     let from = to_z w64 (of_z w64 c.args.from) in
     let to = to_z w64 (of_z w64 w.to) in
     let end : to ≡ w.to = omega (arith, ints, w.not_early, w.ordered, w.not_late) in
-    let are = subst (λ f. AreRunning (clocks_in c.args.zones) w event f running) (sym (moment-back c.args.from c.ranges.from.sfits)) c.requires.running in
+    let begin = sym (moment-back c.args.since c.ranges.since.sfits) in
+    let back = sym (moment-back c.args.from c.ranges.from.sfits) in
+    let are = both-back (λ s f. AreRunning (clocks_in c.args.zones) w event s f running) begin back c.requires.running in
     let known = c.or_all-near.ensures (rdate_locals event) from running to (locals-counted c.event.view_is (grind (arith, c.len.ensures)))
     c.in_ok-given.ensures in
     counting-near c.args.zones w event are (omega (arith, ints, c.requires.soon, c.ranges.from))
@@ -43,7 +45,7 @@ push_at-requires-clause-counting c =
 pub returns-clause-starts : goal.returns-clause-starts
 returns-clause-starts c =
     let event = c.args.event.now in
-    subst
-    (λ f. IfOk c.push_at.result
-    (λ x. c.push_at.new.starts.items ≡ c.args.starts.now.items ++ listed_from (clocks_in c.args.zones) c.args.window.now f event 0 event.rdates))
-    (moment-back c.args.from c.ranges.from.sfits) c.push_at.ensures.starts
+    both-back
+    (λ s f. IfOk c.push_at.result
+    (λ x. c.push_at.new.starts.items ≡ c.args.starts.now.items ++ listed_from (clocks_in c.args.zones) c.args.window.now s f event 0 event.rdates))
+    (moment-back c.args.since c.ranges.since.sfits) (moment-back c.args.from c.ranges.from.sfits) c.push_at.ensures.starts

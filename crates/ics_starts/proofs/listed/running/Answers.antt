@@ -1,4 +1,4 @@
-use Rattle.std.proofs.Common.{◌≡◌, ◌<◌, ◌<ℤ◌, ◌||◌, ℤ, Some, inl, inr, ⊎_elim, refl, sym, ◌∙◌, ap, subst, arith, slice_get, int_eq}
+use Rattle.std.proofs.Common.{◌≡◌, ◌<◌, ◌<ℤ◌, ◌≤ℤ◌, ◌||◌, ℤ, Some, inl, inr, ⊎_elim, refl, sym, ◌∙◌, ap, subst, arith, slice_get, int_eq, to_z, of_z, w64}
 use Rattle.std.proofs.lemmas.Bool.{cases_lt, or_cases, or_left, or_right}
 use Rattle.std.proofs.lemmas.Int.{ints}
 use Rattle.std.proofs.lemmas.List.Sorted.{list_any-IsPermutation}
@@ -60,26 +60,28 @@ loop-k-preserved c =
     value-at (ap (λ (v : Event). v.rdates) c.event.view_is) c.at.ensures (c.near_spans-near.ensures.within k below) c.index.ensures in
     let given : c.given_by.result ≡ given_by event.start r = c.given_by.ensures ∙ ap (λ (v : Event). given_by v.start r) c.event.view_is in
     let before = c.loop-k.running.items in
-    let more : (t : ℤ) → t <ℤ c.args.from → is_among c.push_running.new.running.items t ≡ (is_among before t || begins_at clocks w t (given_by event.start r)) =
-    λ t early. c.in_ok-push_running.ensures.running t (omega (arith, ints, early, c.ranges.from))
+    let more : (t : ℤ) → c.args.since ≤ℤ t → t <ℤ c.args.from → is_among c.push_running.new.running.items t ≡ (is_among before t || begins_at clocks w t (given_by event.start r)) =
+    λ t on early. c.in_ok-push_running.ensures.running t (omega (arith, ints, on, c.ranges.since)) (omega (arith, ints, early, c.ranges.from))
     ∙ ap (λ v. is_among before t || begins_at clocks w t v) given in
     record {
       known = c.push_running.ensures.known;
-      only = λ t early e.
+      only = λ t on early e.
+          let late : c.args.since ≤ℤ t = omega (arith, ints, on, c.ranges.since) in
           let less : t <ℤ c.args.from = omega (arith, ints, early, c.ranges.from) in
-          ⊎_elim (λ a. c.loop-k.invariant.only t early a)
+          ⊎_elim (λ a. c.loop-k.invariant.only t on early a)
           (λ b. any_passes_from_place (λ x. begins_at clocks w t (given_by event.start x)) event.rdates (place_in near k) r there b)
-          (or_cases (is_among before t) (begins_at clocks w t (given_by event.start r)) (sym (more t less) ∙ e));
-      all = λ t j rdate early l stands e.
+          (or_cases (is_among before t) (begins_at clocks w t (given_by event.start r)) (sym (more t late less) ∙ e));
+      all = λ t j rdate on early l stands e.
+          let late : c.args.since ≤ℤ t = omega (arith, ints, on, c.ranges.since) in
           let less : t <ℤ c.args.from = omega (arith, ints, early, c.ranges.from) in
           elim (cases_lt j k) [
             | inl behind ↦
-                more t less
-                ∙ or_left (is_among before t) (begins_at clocks w t (given_by event.start r)) (c.loop-k.invariant.all t j rdate early behind stands e)
+                more t late less
+                ∙ or_left (is_among before t) (begins_at clocks w t (given_by event.start r)) (c.loop-k.invariant.all t j rdate on early behind stands e)
             | inr on ↦
                 let here : k ≡ j = omega (arith, on, l) in
                 let same : r ≡ rdate = some-same r rdate (sym there ∙ (ap (λ n. slice_get event.rdates (place_in near n)) here ∙ stands)) in
-                more t less
+                more t late less
                 ∙ or_right (is_among before t) (begins_at clocks w t (given_by event.start r))
                 (ap (λ (x : Rdate). begins_at clocks w t (given_by event.start x)) same ∙ e)
           ];
@@ -89,16 +91,17 @@ pub returns-clause-are : goal.returns-clause-are
 returns-clause-are c =
     let event = c.args.event.now in
     let w = c.args.window.now in
-    λ t early.
+    λ t late early.
+    let on : to_z w64 (of_z w64 c.args.since) ≤ℤ t = omega (arith, ints, late, c.ranges.since) in
     let less : t <ℤ c.args.from = omega (arith, ints, early, c.ranges.from) in
     sym (list_any-IsPermutation (λ x. int_eq x t) c.loop-k.running.items c.sort_unstable.new.self.items c.sort_unstable.ensures.permutation)
     ∙ iff (is_among c.loop-k.running.items t) (is_running (clocks_in c.args.zones) w event t)
-    (λ e. c.loop-k.invariant.only t (omega (arith, ints, early, c.ranges.from)) e)
+    (λ e. c.loop-k.invariant.only t on (omega (arith, ints, early, c.ranges.from)) e)
     (λ e.
     let there = running-near (clocks_in c.args.zones) w t c.near_spans-near.ensures
     (span-near c.args.zones w (omega (arith, ints, w.ordered, w.not_early, w.not_late), omega (arith, ints, c.ranges.from, c.requires.soon, w.not_late)) less)
     e in
     let over = c.loop-k-test.false in
     let end = c.count-k-end.ensures in
-    c.loop-k.invariant.all t there.k there.rdate (omega (arith, ints, early, c.ranges.from)) (omega (arith, there.within, over, end)) there.stands
+    c.loop-k.invariant.all t there.k there.rdate on (omega (arith, ints, early, c.ranges.from)) (omega (arith, there.within, over, end)) there.stands
     there.begins)
