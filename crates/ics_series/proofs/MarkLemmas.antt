@@ -1,5 +1,5 @@
 -- Marks of searches: which ones there are after one is put.
-use Rattle.std.proofs.Common.{◌≡◌, ◌∙◌, ℕ, zero, suc, List, [], ◌∷◌, ◌++◌, map, replicate, take, Option, Some, None, MatchOption, is_none, true, false}
+use Rattle.std.proofs.Common.{◌≡◌, ◌∙◌, ℕ, zero, suc, List, [], ◌∷◌, ◌++◌, map, replicate, take, Option, Some, None, MatchOption, Bor, is_none, true, false}
 use Rattle.std.proofs.Common.{⊎_elim, refl, sym, ap, subst, slice_get, option_map}
 use Rattle.std.specs.Option.{unwrap_or}
 use Rattle.std.proofs.lemmas.Option.{slice_get-map}
@@ -61,11 +61,11 @@ module _ (files : List FileSaid) (labels : List Label) where
       are place (Some m) (seen v) event at (ap (λ ls. slice_get ls place) is ∙ (slice_get-map seen vs place ∙ ap (option_map seen) there)) e
 
 -- what is read at a place is a mark, if each mark there is one
-pub mark-at : (event : Event) (marks : List (Option Mark)) (place : ℕ) (mark : Option Mark)
+pub mark-at : (event : Event) (marks : List (Option Mark)) (place : ℕ) (mark : Option (Bor Mark))
     → ((m : Mark) → slice_get marks place ≡ Some (Some m) → IsMarkOf event (Some m))
-    → MatchOption mark (Unit {0}) (λ m. slice_get marks place ≡ Some (Some m)) → IsMarkOf event mark
+    → MatchOption mark (Unit {0}) (λ m. slice_get marks place ≡ Some (Some m.now)) → MatchOption mark (Unit {0}) (λ m. IsMarkOf event (Some m.now))
 mark-at event marks place None h at = tt
-mark-at event marks place (Some m) h at = h m at
+mark-at event marks place (Some m) h at = h m.now at
 
 -- the first of these sources
 abbrev pub first_source : Recurring → List Source → Recurring

@@ -15,12 +15,12 @@ pub(crate) fn add_places(marks: &mut Vec<Option<Mark>>, count: usize) -> Result<
 }
 
 /// The mark at a place.
-pub(crate) fn mark_at(marks: &[Option<Mark>], place: usize) -> Option<Mark>
-    ensures { MatchOption result (Unit {0}) (λ m. slice_get marks.now place ≡ Some (Some m)) }
+pub(crate) fn mark_at(marks: &[Option<Mark>], place: usize) -> Option<&Mark>
+    ensures { MatchOption result (Unit {0}) (λ m. slice_get marks.now place ≡ Some (Some m.now)) }
 {
     match marks.get(place)? {
         None => None,
-        Some(mark) => Some(*mark),
+        Some(mark) => Some(mark),
     }
 }
 

@@ -135,7 +135,7 @@ fn move_on(
         return Ok(());
     }
     let span = Span {
-        first: series.quiet().to,
+        first: series.quiet(&mut None),
         last: Moment::MAX,
     };
     put_span(spans, place, span);
@@ -167,13 +167,13 @@ pub(crate) fn move_off(
     if !is_near(near, place) {
         return;
     }
-    let quiet = ended.series.quiet();
+    let mut mark = None;
     let span = Span {
-        first: quiet.to,
+        first: ended.series.quiet(&mut mark),
         last: Moment::MAX,
     };
     put_span(spans, place, span);
-    put_mark(marks, place, quiet.mark);
+    put_mark(marks, place, mark);
 }
 
 /// Whether a place is a near one.
@@ -299,12 +299,12 @@ fn new_series<'a>(
     event: &'a Event,
     window: Window,
     since: Moment,
-    mark: Option<Mark>,
+    mark: Option<&Mark>,
     keeps: bool,
     replaced: Replaced,
 ) -> Result<Box<Series<'a>>, AllocError>
     requires own { IsOwnEvent zones event.now }
-    requires mark { IsMarkOf event.now mark }
+    requires mark { MatchOption mark (Unit {0}) (λ m. IsMarkOf event.now (Some m.now)) }
     ensures listing { IfOk result (λ series. IsListing entry_cmp
         (IsSeriesMet (clocks_in zones.entry) event.entry.now window since replaced)
         (⟦<Series<'a> as Coming>⟧.coming series.value)) }

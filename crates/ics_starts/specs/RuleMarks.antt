@@ -1,5 +1,5 @@
 -- Where a search for the starts of a rule began, so that a later search can go on from there.
-use Rattle.std.specs.Prelude.{◌≡◌, Option, None, Some, is_some, true}
+use Rattle.std.specs.Prelude.{◌≡◌, ◌⊎◌, MatchOption, Option, None, Some, is_some, true}
 use Rattle.std.specs.Coded.{Unit-prop, Π_prop}
 use Rattle.std.proofs.Props.{props}
 use Rattle.ics_event.specs.declared.event.Event.{Event}
@@ -25,6 +25,10 @@ pub record IsBegun (rule : Recurrence) (from : Local) (cursor : Cursor) : Type 0
 pub record IsCountMark (rule : Recurrence) (m : Mark) : Type 0 where
   pub counts : is_some rule.parts.count ≡ true
   pub begun : IsBegun rule m.from m.cursor
+
+-- what stands for a mark is the same as before, or a mark of a rule under COUNT
+abbrev pub IsMarked : Recurrence → Option Mark → Option Mark → Type 0
+IsMarked rule old new = (new ≡ old) ⊎ MatchOption new ⊥ (IsCountMark rule)
 
 -- a mark, if there is one, is that of the event's rule
 abbrev pub IsMarkOf : Event → Option Mark → Type 0

@@ -26,7 +26,7 @@ mod zones;
 
 pub use instants::instant;
 pub use laws::{each_start, most_in_days, none_excluded, one_start, raw_counted, starts_by_until};
-pub use mark::{Mark, Quiet};
+pub use mark::Mark;
 pub use replaced::Replaced;
 pub use series::Series;
 pub use single::Single;

@@ -5,12 +5,15 @@ ghost use Rattle.std.specs.Option.{is_some};
 ghost use Rattle.ics_fields.specs.Days.{IsDayNumber};
 ghost use Rattle.ics_fields.specs.Locals.{number};
 ghost use Rattle.ics_period.specs.PeriodNumbers.{rules_end};
+ghost use Rattle.ics_period.specs.Recurrence.{Recurrence};
 ghost use Rattle.ics_starts.specs.RuleMarks.{IsBegun, IsCountMark};
 ghost use Rattle.ics_starts.specs.RuleStarts.{midnight_number, HasLookedTo};
+ghost use Rattle.ics_starts.specs.Starts.{recurrence_of};
 
+use ics_event::Event;
 use ics_fields::EPOCH_DAY;
 use ics_rule::{Cursor, Rule};
-use ics_values::{Local, Moment};
+use ics_values::Local;
 
 /// The cursor of a rule, as it was when a search for the rule's starts began at a local.
 #[derive(Clone, Copy)]
@@ -19,23 +22,14 @@ pub struct Mark {
     pub(crate) cursor: Cursor,
 }
 
-/// How long nothing of a series begins after a window, and where a later search of its rule can begin.
-#[derive(Clone, Copy)]
-pub struct Quiet {
-    /// Nothing begins before this instant.
-    pub to: Moment,
-    /// Where the search of the rule is, if a later one hardly begins before that.
-    pub mark: Option<Mark>,
-}
-
 impl Mark {
     /// The cursor, moved on to a midnight. Of the locals before it only those of the last minute are read, so that those before are counted
     /// by whole periods.
-    fn moved_to(self, rule: &Rule, from: Local) -> Cursor
-        requires mark { IsCountMark rule.now self }
+    fn moved_to(&self, rule: &Rule, from: Local) -> Cursor
+        requires mark { IsCountMark rule.now self.now }
         requires day { IsDayNumber from.day }
         requires midnight { from.second ≡ 0 }
-        requires later { number self.from ≤ number from }
+        requires later { number self.now.from ≤ number from }
         requires early { number from ≤ rules_end }
         ensures { IsBegun rule.now from result }
     {
@@ -50,9 +44,19 @@ impl Mark {
     }
 }
 
+/// Whether the rule of an event has COUNT.
+pub(crate) fn is_counted(event: &Event) -> bool
+    ensures { (rule : Recurrence) → recurrence_of event.now ≡ Some rule → result ≡ is_some rule.parts.count }
+{
+    match &event.rule {
+        None => false,
+        Some(rule) => rule.parts().count.is_some(),
+    }
+}
+
 /// A mark of a rule, if that has COUNT. Without it a search begins anywhere at once.
-pub(crate) fn counted(counts: bool, mark: Option<Mark>) -> Option<Mark>
-    ensures { MatchOption result (Unit {0}) (λ m. (mark ≡ Some m) × (counts ≡ true)) }
+pub(crate) fn counted(counts: bool, mark: Option<&Mark>) -> Option<&Mark>
+    ensures { MatchOption result (Unit {0}) (λ m. (mark.entry ≡ Some m) × (counts ≡ true)) }
 {
     if counts { mark } else { None }
 }
@@ -66,15 +70,18 @@ pub(crate) fn begun_before(
     rule: &Rule,
     at_once: bool,
     from: Local,
-    mark: Option<Mark>,
+    mark: Option<&Mark>,
 ) -> Option<Mark>
     requires from { IsDayNumber from.day }
     requires counts { at_once ≡ true → is_some rule.now.parts.count ≡ true }
-    requires mark { MatchOption mark (Unit {0}) (IsCountMark rule.now) }
+    requires mark { MatchOption mark (Unit {0}) (λ m. IsCountMark rule.now m.now) }
     ensures { MatchOption result (Unit {0}) (IsCountMark rule.now) }
 {
-    if mark.is_some() || !at_once || from.day <= FIRST_DAY {
-        return mark;
+    if let Some(mark) = mark {
+        return Some(*mark);
+    }
+    if !at_once || from.day <= FIRST_DAY {
+        return None;
     }
     let from = Local::at(from.day - 1, 0);
     let cursor = Cursor::at(rule, from);
@@ -83,11 +90,11 @@ pub(crate) fn begun_before(
 
 /// The cursor of a rule at a local, where its search up to the midnight of day `end` begins. It goes on
 /// from a mark that is not later.
-pub(crate) fn begun(rule: &Rule, from: Local, end: i32, mark: Option<Mark>) -> Cursor
+pub(crate) fn begun(rule: &Rule, from: Local, end: i32, mark: Option<&Mark>) -> Cursor
     requires from { IsDayNumber from.day }
     requires end { IsDayNumber end }
     requires early { midnight_number end ≤ rules_end }
-    requires mark { MatchOption mark (Unit {0}) (IsCountMark rule.now) }
+    requires mark { MatchOption mark (Unit {0}) (λ m. IsCountMark rule.now m.now) }
     ensures begun { IsBegun rule.now from result }
     ensures looked { HasLookedTo rule.now from (int_min from.day end) result }
 {

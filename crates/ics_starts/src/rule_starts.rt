@@ -28,7 +28,7 @@ use crate::exclusion::Exclusions;
 use crate::instants::{bounds, instant_in, is_in, no_stretch, stretch, stretch_by};
 use crate::kept_locals::{KeptLocals, end, is_searched, known_next, leave, next, quiet};
 use crate::listed::lesser_past;
-use crate::mark::{Mark, Quiet, begun};
+use crate::mark::{Mark, begun, is_counted};
 use crate::shared_rule::SharedRule;
 use crate::starts::{end_nearby, is_until};
 use crate::zones::FileZones;
@@ -286,7 +286,7 @@ impl<'a> RuleStarts<'a> {
     ghost use Rattle.ics_fields.specs.Locals.{local_seconds};
     ghost use Rattle.ics_starts.specs.RuleStarts.{found, is_ready, moment_numbered, steps_left, to_come};
     ghost use Rattle.ics_starts.specs.FileZones.{IsOwnEvent};
-    ghost use Rattle.ics_starts.specs.RuleMarks.{IsCountMark};
+    ghost use Rattle.ics_starts.specs.RuleMarks.{IsCountMark, IsMarked};
     ghost use Rattle.ics_starts.specs.Quiet.{AreQuiet};
 
     /// The starts by the locals from a given one on. Under COUNT the locals before a mark are not counted again.
@@ -321,7 +321,7 @@ impl<'a> RuleStarts<'a> {
             bounds.most,
         );
         let day = from.day.min(end);
-        let begun = begun(rule.get(), from, end, mark);
+        let begun = begun(rule.get(), from, end, mark.as_ref());
         let place = from.number();
         let next = Local::at(day, 0).seconds();
         RuleStarts {
@@ -355,12 +355,12 @@ impl<'a> RuleStarts<'a> {
         event: &'a Event,
         window: Window,
         from: Local,
-        mark: Option<Mark>,
+        mark: Option<&Mark>,
     )
         requires event { IsOwnEvent zones event.now }
         requires same { self.old.event.now ≡ event.now }
         requires from { IsDayNumber from.day }
-        requires mark { MatchOption mark (Unit {0}) (IsCountMark self.old.rule) }
+        requires mark { MatchOption mark (Unit {0}) (λ m. IsCountMark self.old.rule m.now) }
         ensures left { starts_left self.new ≡ found (clocks_in zones.entry) event.entry.now self.old.rule window (number from) }
         ensures zones { self.new.zones ≡ zones.entry }
         ensures event { self.new.event ≡ event.entry }
@@ -546,7 +546,9 @@ impl<'a> RuleStarts<'a> {
         ensures source { HasSameSource self.old self.new }
         ensures less { result ≡ true → steps_left self.new.day self.new.end (place_of self.new.cursor)
             < steps_left self.old.day self.old.end (place_of self.old.cursor) }
-        ensures same { result ≡ false → self.new ≡ self.old }
+        ensures same { result ≡ false → steps_left self.new.day self.new.end (place_of self.new.cursor)
+            ≡ steps_left self.old.day self.old.end (place_of self.old.cursor) }
+        ensures behind { result ≡ false → is_unsettled self.new ≡ true }
     {
         if !is_searched(&self.kept) || !is_sparse(self.event) || self.cursor.steps() == 0 {
             return false;
@@ -556,15 +558,13 @@ impl<'a> RuleStarts<'a> {
             return false;
         }
         let to = Local::at(bound, 0);
-        let mut cursor = self.cursor;
-        let next = cursor.quiet(self.rule.get());
+        let next = self.cursor.quiet(self.rule.get());
         if next.number() < to.number() {
             return false;
         }
-        cursor.pass(self.rule.get(), to);
+        self.cursor.pass(self.rule.get(), to);
         self.none_from = self.place;
         self.none_to = next;
-        self.cursor = cursor;
         self.place = self.place.max(to.number());
         self.day = bound;
         self.asked = bound;
@@ -831,44 +831,45 @@ impl<'a> RuleStarts<'a> {
     }
 
     /// An instant before which no local after DTSTART gives a start, of those from the first that was read
-    /// on and at the window's end or later, whatever the window. Under COUNT the mark knows it, if there is one.
-    pub(crate) fn quiet(&self) -> Quiet
-        ensures to { AreQuiet (clocks_in self.now.zones) self.now.event.now self.now.rule self.now.window (number self.now.from) result.to }
-        ensures mark { MatchOption result.mark (Unit {0}) (IsCountMark self.now.rule) }
+    /// on and at the window's end or later, whatever the window. Under COUNT a mark that knows it may be put.
+    pub(crate) fn quiet(&self, mark: &mut Option<Mark>) -> Moment
+        ensures to { AreQuiet (clocks_in self.now.zones) self.now.event.now self.now.rule self.now.window (number self.now.from) result }
+        ensures mark { IsMarked self.now.rule mark.old mark.new }
     {
         match self.rule.get().until_moment() {
-            Some(until) if until < self.window.to => Quiet {
-                to: Moment::MAX,
-                mark: None,
-            },
+            Some(until) if until < self.window.to => Moment::MAX,
+            _ if self.knows_next() => {
+                let to = self.quiet_to(self.none_to);
+                self.put_mark(&self.cursor, to, mark);
+                to
+            }
             _ => {
                 let mut cursor = self.cursor;
-                let next = self.quiet_from(&mut cursor);
-                let settled = self.settled_at(next);
-                // They are after a settled instant.
-                let after = settled + 1;
-                let to = self.beyond.min(after);
-                Quiet {
-                    to,
-                    mark: self.mark_before(cursor, to),
-                }
+                let next = quiet(&self.kept, &mut cursor, self.place, self.rule.get());
+                let to = self.quiet_to(next);
+                self.put_mark(&cursor, to, mark);
+                to
             }
         }
     }
 
-    /// A local before which the rule keeps none from the place of the cursor, a copy of which this is. It is known or asked for.
-    fn quiet_from(&self, cursor: &mut Cursor) -> Local
-        requires { cursor.old ≡ self.now.cursor }
-        ensures none { NoneKept self.now.rule (place_of self.now.cursor) (number result) }
-        ensures day { IsDayNumber result.day }
-        ensures place { place_of cursor.new ≡ place_of self.now.cursor }
-        ensures own { IsCursorOf self.now.rule cursor.new }
-        ensures looked { (a b : ℕ) → HasLooked self.now.rule self.now.cursor a b → HasLooked self.now.rule cursor.new a b }
+    /// Whether it is known how long the rule keeps no local from the place of the cursor on.
+    fn knows_next(&self) -> bool
+        ensures { result ≡ true → NoneKept self.now.rule (place_of self.now.cursor) (number self.now.none_to) }
     {
-        if self.none_from <= self.place && self.place < self.none_to.number() {
-            return self.none_to;
-        }
-        quiet(&self.kept, cursor, self.place, self.rule.get())
+        self.none_from <= self.place && self.place < self.none_to.number()
+    }
+
+    /// The same instant, where the rule keeps no local from the place of the cursor on and before this one.
+    fn quiet_to(&self, next: Local) -> Moment
+        requires day { IsDayNumber next.day }
+        requires none { NoneKept self.now.rule (place_of self.now.cursor) (number next) }
+        ensures { AreQuiet (clocks_in self.now.zones) self.now.event.now self.now.rule self.now.window (number self.now.from) result }
+    {
+        let settled = self.settled_at(next);
+        // They are after a settled instant.
+        let after = settled + 1;
+        self.beyond.min(after)
     }
 
     /// An instant that is before those of all locals from one on.
@@ -899,26 +900,29 @@ impl<'a> RuleStarts<'a> {
         stretch(self.zones, event.start, local)
     }
 
-    /// A mark of a cursor at the place of the search, if the rule has COUNT, and if nothing begins up to an instant that is so late that a later search
-    /// hardly begins before the place.
-    fn mark_before(&self, cursor: Cursor, to: Moment) -> Option<Mark>
-        requires own { IsCursorOf self.now.rule cursor }
-        requires place { place_of cursor ≡ self.now.place }
-        requires looked { HasLookedTo self.now.rule self.now.from self.now.asked cursor }
-        ensures { MatchOption result (Unit {0}) (IsCountMark self.now.rule) }
+    /// Puts a mark of a cursor at the place of the search, if the rule has COUNT, and if nothing begins up to an instant that is so late that a later
+    /// search hardly begins before the place.
+    fn put_mark(&self, cursor: &Cursor, to: Moment, mark: &mut Option<Mark>)
+        requires own { IsCursorOf self.now.rule cursor.now }
+        requires place { place_of cursor.now ≡ self.now.place }
+        requires looked { HasLookedTo self.now.rule self.now.from self.now.asked cursor.now }
+        ensures { IsMarked self.now.rule mark.old mark.new }
     {
-        let event = self.event;
-        let _count = event.rule.as_ref()?.parts().count?;
+        if !is_counted(self.event) {
+            return;
+        }
         let from = Local::numbered(self.place);
         let days = i64::from(from.day).saturating_sub(i64::from(self.from.day));
         let late = self
             .window
             .to
             .saturating_add(days.saturating_add(2).saturating_mul(DAY));
-        if to < late || from.day < self.asked {
-            return None;
+        if late <= to && self.asked <= from.day {
+            *mark = Some(Mark {
+                from,
+                cursor: *cursor,
+            });
         }
-        Some(Mark { from, cursor })
     }
 
     /// Where the search begins, if the rule has COUNT. Nothing was read yet.

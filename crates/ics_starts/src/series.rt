@@ -1,10 +1,9 @@
 //! The occurrences of one event that meet a window, found one by one.
-ghost use Rattle.std.specs.Prelude.{◌≡◌, ◌<◌, ◌<ℤ◌, ◌≤ℤ◌, ◌-ℤ◌, ℤ, pos, false, is_some, slice_get, true, All, IfOk, IfSome, List, MatchOption, None, Some};
+ghost use Rattle.std.specs.Prelude.{◌≡◌, ◌<◌, ◌<ℤ◌, ◌≤ℤ◌, ◌-ℤ◌, ℤ, pos, false, slice_get, true, All, IfOk, IfSome, List, MatchOption, None, Some};
 ghost use Rattle.std.specs.List.Sorted.{IsSorted};
 ghost use Rattle.std.specs.Ordering.{int_cmp};
 ghost use Rattle.ics_event.specs.Event.{IsLasting};
 ghost use Rattle.ics_fields.specs.Days.{IsDayNumber};
-ghost use Rattle.ics_period.specs.Recurrence.{Recurrence};
 ghost use Rattle.ics_fields.specs.Locals.{number, year_seconds};
 ghost use Rattle.ics_listing.specs.Entry.{entry_cmp};
 ghost use Rattle.ics_starts.specs.EventLaws.{own-event-prop};
@@ -19,7 +18,7 @@ ghost use Rattle.ics_starts.specs.Found.{counts_from, first_met, AreRunning, IsS
 ghost use Rattle.ics_listing.specs.FileClocks.{Clock};
 ghost use Rattle.ics_listing.specs.Listing.{IsIn};
 ghost use Rattle.ics_starts.specs.Inner.KeptLocals.{IsKeptOf};
-ghost use Rattle.ics_starts.specs.RuleMarks.{IsBegun, IsCountMark, IsMarkOf};
+ghost use Rattle.ics_starts.specs.RuleMarks.{IsBegun, IsMarked, IsMarkOf};
 ghost use Rattle.ics_starts.specs.Quiet.{AreQuiet};
 ghost use Rattle.ics_listing.specs.Merged.{cut};
 ghost use Rattle.ics_listing.specs.Rising.{Rises, Rises-prop};
@@ -43,7 +42,7 @@ use crate::kept_locals::KeptLocals;
 use crate::kind::kind_of;
 use crate::lasting::lasting_by;
 use crate::listed::{counts_from, listed_again, push_listed, running};
-use crate::mark::{Mark, Quiet, begun_before, counted};
+use crate::mark::{Mark, begun_before, counted, is_counted};
 use crate::occurrence::met_by;
 use crate::replaced::Replaced;
 use crate::rule_starts::RuleStarts;
@@ -193,16 +192,6 @@ fn rule_of(
     }
 }
 
-/// Whether the rule of an event has COUNT.
-fn is_counted(event: &Event) -> bool
-    ensures { (rule : Recurrence) → recurrence_of event.now ≡ Some rule → result ≡ is_some rule.parts.count }
-{
-    match &event.rule {
-        None => false,
-        Some(rule) => rule.parts().count.is_some(),
-    }
-}
-
 /// The local from which on the rule of an event is read for the starts from an instant on and, if the event is long, for earlier ones that can
 /// still meet the window.
 fn begin_of_rule(
@@ -241,12 +230,12 @@ fn begin_again<'a>(
     event: &'a Event,
     window: Window,
     from: Local,
-    mark: Option<Mark>,
+    mark: Option<&Mark>,
 )
     requires event { IsOwnEvent zones event.now }
     requires rule { MatchOption rule.old (event.now.rule ≡ None) (λ s. s.event.now ≡ event.now) }
     requires day { IsDayNumber from.day }
-    requires mark { IsMarkOf event.now mark }
+    requires mark { MatchOption mark (Unit {0}) (λ m. IsMarkOf event.now (Some m.now)) }
     ensures own { (first : ℤ) → IsRuleBegin (clocks_in zones.entry) event.entry.now first from → HasOwnRule zones.entry event.entry.now window first rule.new }
     ensures from { (since : ℤ) (listed : List Start) → IsRuleBegin (clocks_in zones.entry) event.entry.now
         (first_asked (clocks_in zones.entry) window event.entry.now since listed) from → MatchOption rule.new (event.entry.now.rule ≡ None)
@@ -269,7 +258,7 @@ fn starts_by_rule<'a>(
     since: Moment,
     met: Moment,
     listed: &[Start],
-    mark: Option<Mark>,
+    mark: Option<&Mark>,
     keeps: bool,
 ) -> Result<Option<RuleStarts<'a>>, AllocError>
     requires event { IsOwnEvent zones event.now }
@@ -277,7 +266,7 @@ fn starts_by_rule<'a>(
     requires late { (occurrence_first -ℤ lasts_most) ≤ℤ met }
     requires early { met ≤ℤ window.from }
     requires listed { All (IsStartIn zones) listed.now }
-    requires mark { IsMarkOf event.now mark }
+    requires mark { MatchOption mark (Unit {0}) (λ m. IsMarkOf event.now (Some m.now)) }
     ensures own { IfOk result (HasOwnRule zones.entry event.entry.now window
         (first_asked (clocks_in zones.entry) window event.entry.now since listed.entry.now)) }
     ensures from { IfOk result (λ given. MatchOption given (event.entry.now.rule ≡ None)
@@ -443,17 +432,14 @@ fn listed_from(listed: &ListedStarts) -> Moment
 }
 
 /// An instant before which no local after DTSTART gives a start, of those from the first that was read on and
-/// at the window's end or later, and a mark of the rule, if there is one.
-fn rule_quiet(rule: &Option<RuleStarts<'_>>) -> Quiet
-    ensures to { MatchOption rule.now (Unit {0}) (λ s. AreQuiet (clocks_in s.zones) s.event.now s.rule s.window (number s.from) result.to) }
-    ensures mark { MatchOption rule.now (result.mark ≡ None) (λ s. MatchOption result.mark (Unit {0}) (IsCountMark s.rule)) }
+/// at the window's end or later. A mark of the rule may be put.
+fn rule_quiet(rule: &Option<RuleStarts<'_>>, mark: &mut Option<Mark>) -> Moment
+    ensures to { MatchOption rule.now (Unit {0}) (λ s. AreQuiet (clocks_in s.zones) s.event.now s.rule s.window (number s.from) result) }
+    ensures mark { MatchOption rule.now (mark.new ≡ mark.old) (λ s. IsMarked s.rule mark.old mark.new) }
 {
     match rule {
-        None => Quiet {
-            to: Moment::MAX,
-            mark: None,
-        },
-        Some(starts) => starts.quiet(),
+        None => Moment::MAX,
+        Some(starts) => starts.quiet(mark),
     }
 }
 
@@ -475,12 +461,12 @@ impl<'a> Series<'a> {
         event: &'a Event,
         window: Window,
         since: Moment,
-        mark: Option<Mark>,
+        mark: Option<&Mark>,
         keeps: bool,
         replaced: Replaced,
     ) -> Result<Series<'a>, AllocError>
         requires own { IsOwnEvent zones event.now }
-        requires mark { IsMarkOf event.now mark }
+        requires mark { MatchOption mark (Unit {0}) (λ m. IsMarkOf event.now (Some m.now)) }
         ensures listing { IfOk result (λ series. IsListing entry_cmp
             (IsSeriesMet (clocks_in zones.entry) event.entry.now window since replaced)
             (⟦<Series<'a> as Coming>⟧.coming series)) }
@@ -517,12 +503,12 @@ impl<'a> Series<'a> {
         event: &'a Event,
         window: Window,
         since: Moment,
-        mark: Option<Mark>,
+        mark: Option<&Mark>,
         replaced: Replaced,
     ) -> Result<(), AllocError>
         requires own { IsOwnEvent zones event.now }
         requires same { self.old.event.now ≡ event.now }
-        requires mark { IsMarkOf event.now mark }
+        requires mark { MatchOption mark (Unit {0}) (λ m. IsMarkOf event.now (Some m.now)) }
         ensures listing { OnOk result (IsListing entry_cmp
             (IsSeriesMet (clocks_in zones.entry) event.entry.now window since replaced)
             (⟦<Series<'a> as Coming>⟧.coming self.new)) }
@@ -642,17 +628,13 @@ impl<'a> Series<'a> {
     }
 
     /// An instant before which no occurrence begins, of those that begin at the window's end or later and are
-    /// of the series. A mark may tell where a later search of its rule can begin.
-    pub fn quiet(&self) -> Quiet
-        ensures to { IsQuietTo (clocks_in self.now.zones) self.now.event.now self.now.window self.now.since result.to }
-        ensures mark { IsMarkOf self.now.event.now result.mark }
+    /// of the series. A mark that tells where a later search of its rule can begin may be put in place of this one.
+    pub fn quiet(&self, mark: &mut Option<Mark>) -> Moment
+        ensures to { IsQuietTo (clocks_in self.now.zones) self.now.event.now self.now.window self.now.since result }
+        ensures mark { IsMarkOf self.now.event.now mark.old → IsMarkOf self.now.event.now mark.new }
     {
         let listed = listed_again(self.zones, self.event, &self.dates, self.window.to);
-        let quiet = rule_quiet(&self.rule_starts);
-        Quiet {
-            to: listed.min(quiet.to),
-            mark: quiet.mark,
-        }
+        listed.min(rule_quiet(&self.rule_starts, mark))
     }
 
     /// Passes over locals that the rule need not be read for, since what they give is removed or has ended.

@@ -19,7 +19,7 @@ returns-clause-spans c =
     let series = ended.series.value in
     let event = series.event.now in
     let first = first_at c.args.spans.now.items ended.place in
-    let fits : to_z w64 (of_z w64 c.quiet-quiet.result.to) ≡ c.quiet-quiet.result.to = search rules in
+    let fits : to_z w64 (of_z w64 c.quiet.result) ≡ c.quiet.result = search rules in
     let since-fits : to_z w64 (of_z w64 c.since.result) ≡ c.since.result = search rules in
     let first-fits : to_z w64 (of_z w64 c.first_at.result) ≡ c.first_at.result = search rules in
     let begin : c.first_at.result ≡ first_at c.args.spans.now.items c.args.ended.now.place =
@@ -35,12 +35,12 @@ returns-clause-spans c =
           let least : c.since.result ≤ℤ c.first_at.result = omega (arith, ints, c.if-first_at-since.false, since-fits, first-fits) in
           omega (arith, ints, int_max_is always.first first, least, since, begin);
       empty = refl;
-      span = record { first = to_z w64 (of_z w64 c.quiet-quiet.result.to); last = pos 9_223_372_036_854_775_807 };
+      span = record { first = to_z w64 (of_z w64 c.quiet.result); last = pos 9_223_372_036_854_775_807 };
       rest = record {
         last = refl;
         first = subst (IsQuietTo (clocks_in series.zones) event series.window series.since) (sym fits)
-            (subst (λ (s : Series). IsQuietTo (clocks_in s.zones) s.event.now s.window s.since c.quiet-quiet.result.to) c.deref-3.ensures
-            c.quiet-quiet.ensures.to);
+            (subst (λ (s : Series). IsQuietTo (clocks_in s.zones) s.event.now s.window s.since c.quiet.result) c.deref-3.ensures
+            c.quiet.ensures.to);
       };
       put = c.put_span.ensures;
     } in
@@ -59,6 +59,6 @@ returns-clause-marks c = record {
       let uid : c.as_slice.result.now ≡ c.args.ended.now.series.value.event.now.uid =
       c.as_slice.ensures ∙ (ap (λ (e : Event). e.uid) c.event.view_is ∙ ap (λ (e : Event). e.uid) (sym ended.own)) in
       let at = subst (IsMasterAt (map seen c.args.versions.now) ended.place) uid (c.is_master_at.ensures c.if-not-is_master_at.false) in
-      let mark = subst (λ (s : Series). IsMarkOf s.event.now c.quiet-quiet.result.mark) c.deref-3.ensures c.quiet-quiet.ensures.mark in
+      let mark = subst (λ (s : Series). IsMarkOf s.event.now c.quiet.new.mark) c.deref-3.ensures (c.quiet.ensures.mark tt) in
       marks-over chosen of at mark c.args.marks.now.items c.put_mark.new.marks.items c.put_mark.ensures are;
 }

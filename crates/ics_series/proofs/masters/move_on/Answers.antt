@@ -18,7 +18,7 @@ pub returns : goal.returns
 returns c =
     let old = c.args.series.now in
     let new = c.settle.new.self in
-    let fits : to_z w64 (of_z w64 c.quiet.result.to) ≡ c.quiet.result.to = search rules in
+    let fits : to_z w64 (of_z w64 c.quiet.result) ≡ c.quiet.result = search rules in
     let since-fits : to_z w64 (of_z w64 c.since.result) ≡ c.since.result = search rules in
     let least-fits : to_z w64 (of_z w64 c.max-least.result) ≡ c.max-least.result = search rules in
     let from-fits : to_z w64 (of_z w64 c.unwrap_or.result) ≡ c.unwrap_or.result = search rules in
@@ -36,11 +36,11 @@ returns c =
       spans = inr (record {
         low = subst (λ t. t ≤ℤ int_max from first) c.since.ensures (subst (λ r. c.since.result ≤ℤ r) least behind);
         empty = sym c.settle.ensures.coming ∙ c.in_ok-settle.ensures.none c.if-branch.false;
-        span = record { first = to_z w64 (of_z w64 c.quiet.result.to); last = pos 9_223_372_036_854_775_807 };
+        span = record { first = to_z w64 (of_z w64 c.quiet.result); last = pos 9_223_372_036_854_775_807 };
         rest = record {
           last = refl;
           first = subst (IsQuietTo (clocks_in old.zones) old.event.now old.window old.since) (sym fits)
-              (quiet-same old new c.quiet.result.to c.settle.ensures.same c.quiet.ensures.to);
+              (quiet-same old new c.quiet.result c.settle.ensures.same c.quiet.ensures.to);
         };
         put = c.put_span.ensures;
       });

@@ -14,7 +14,7 @@ loop-cursor-init c =
       place = omega (arith, c.pass.ensures.place, mark.begun.place, last, c.requires.later);
       looked = λ before h.
           c.pass.ensures.looked _ before
-          (mark.begun.looked before (omega (arith, midnight-number c.args.self.from mark.begun.day, c.requires.later, h)));
+          (mark.begun.looked before (omega (arith, midnight-number c.args.self.now.from mark.begun.day, c.requires.later, h)));
     }
 
 pub next-requires-clause-own : goal.next-requires-clause-own
@@ -44,6 +44,6 @@ returns-in-None c =
       looked = λ before h.
           let late : number c.args.from ≤ before = omega (arith, midnight, c.requires.midnight, h) in
           subst (λ a. HasLooked c.args.rule.now c.next.new.self a before)
-          (looks-counted rule.parts.count (number rule.start) (number c.args.self.from) (number c.args.from) c.requires.mark.counts)
+          (looks-counted rule.parts.count (number rule.start) (number c.args.self.now.from) (number c.args.from) c.requires.mark.counts)
           (c.in-None.ensures.looked _ before late (c.loop-cursor.invariant.looked before late));
     }

@@ -1,4 +1,4 @@
-use Rattle.std.proofs.Common.{◌≡◌, ◌∙◌, refl, sym, ap, subst, arith, map, to_z, of_z, w32}
+use Rattle.std.proofs.Common.{Option, None, Some, Bor, MatchOption, ◌≡◌, ◌∙◌, refl, sym, ap, subst, arith, map, to_z, of_z, w32}
 use Rattle.std.specs.Int.{int_min}
 use Rattle.std.proofs.lemmas.Int.{int_min_is, ints}
 use Rattle.ics_fields.specs.declared.local.Local.{Local}
@@ -21,6 +21,9 @@ use Rattle.ics_starts.specs.FileZones.{clocks_in, IsTimeOf}
 use Rattle.ics_starts.specs.Quiet.{AreBeyond}
 use Rattle.ics_starts.proofs.QuietLemmas.{beyond-begun}
 use Rattle.ics_starts.proofs.RuleStepLemmas.{day-back, most-back, signed-back}
+use Rattle.ics_starts.specs.RuleMarks.{IsCountMark}
+use Rattle.ics_starts.specs.declared.mark.Mark.{Mark}
+use Rattle.std.specs.Option.{option_copied}
 use Rattle.ics_starts.proofs.rule_starts.RuleStarts.new.Goals as goal
 
 pub bounds-bounds-requires : goal.bounds-bounds-requires
@@ -42,6 +45,17 @@ end_nearby-end-requires-clause-most c =
     let back = most-back b.result.most b.ensures.bounded.most_short in
     let off = ap (λ (v : Event). seconds_off v.start.stamp) c.event.view_is in
     omega (arith, ints, back, b.ensures.most, off)
+
+-- what holds of a mark holds of what lends it
+lent : (P : Mark → Type 0) (lends : Option (Bor Mark)) → MatchOption (option_copied lends) (Unit {0}) P → MatchOption lends (Unit {0}) (λ m. P m.now)
+lent P None h = tt
+lent P (Some m) h = h
+
+pub begun-begun-requires-clause-mark : goal.begun-begun-requires-clause-mark
+begun-begun-requires-clause-mark c =
+    lent (IsCountMark c.get-2.result.now) c.as_ref.result
+    (subst (λ m. MatchOption m (Unit {0}) (IsCountMark c.get-2.result.now)) (sym c.as_ref.ensures.value)
+    (subst (λ r. MatchOption c.args.mark (Unit {0}) (IsCountMark r)) (sym c.get-2.ensures) c.requires.mark))
 
 pub begun-begun-requires-clause-early : goal.begun-begun-requires-clause-early
 begun-begun-requires-clause-early c =

@@ -1,7 +1,10 @@
-use Rattle.std.proofs.Common.{◌∙◌, ◌≤◌, max, ap, arith}
+use Rattle.std.proofs.Common.{◌∙◌, ◌≤◌, max, sym, ap, subst, arith}
 use Rattle.ics_fields.specs.Locals.{number}
 use Rattle.ics_rule.specs.Cursors.{place_of}
 use Rattle.ics_rule.specs.Next.{NoneKept}
+use Rattle.ics_starts.specs.FileZones.{clocks_in}
+use Rattle.ics_starts.specs.Quiet.{AreBeyond}
+use Rattle.ics_starts.specs.RuleStarts.{IsReadTo}
 use Rattle.ics_starts.proofs.QuietLemmas.{beyond-none}
 use Rattle.ics_starts.proofs.RuleStepLemmas.{bound-days, none-read}
 use Rattle.ics_starts.proofs.rule_starts.RuleStarts.pass_rest.Goals as goal
@@ -21,8 +24,31 @@ number-requires-3 c =
     let b = c.bound-bound in
     bound-days c.args.self.now b.type_inv b.ensures.later b.ensures.within c.at-to.ensures
 
-pub invariant_of-self : goal.invariant_of-self
-invariant_of-self c =
+-- the cursor was asked, and nothing was passed over
+pub invariant_of-self-then-number : goal.invariant_of-self-then-number
+invariant_of-self-then-number c =
+    let s = c.args.self.now in
+    let place = sym c.quiet-next.ensures.place in
+    let looked = rw c.get.ensures at c.quiet-next.ensures.looked in
+    record {
+      rule_of = s.rule_of;
+      rises = s.rises;
+      are = s.are;
+      past_end = subst (λ p. AreBeyond (clocks_in s.zones) s.event.now s.rule s.window (number s.from) p s.beyond) place s.past_end;
+      stretched = s.stretched;
+      spanned = s.spanned;
+      own = rw c.get.ensures at c.quiet-next.ensures.own;
+      looked = λ before m. looked _ before (s.looked before m);
+      placed = s.placed ∙ place;
+      known = s.known;
+      reached = subst (IsReadTo s.day s.asked s.end s.next) place s.reached;
+      early = s.early;
+      none = s.none;
+      none_day = s.none_day;
+    }
+
+pub invariant_of-self-2 : goal.invariant_of-self-2
+invariant_of-self-2 c =
     let s = c.args.self.now in
     let b = c.bound-bound in
     let none = rw c.get.ensures at c.quiet-next.ensures.none in

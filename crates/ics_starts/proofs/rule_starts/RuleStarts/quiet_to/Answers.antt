@@ -1,0 +1,18 @@
+use Rattle.std.proofs.Common.{arith, rules, w64, SFits}
+use Rattle.std.proofs.lemmas.Int.{int_min_is, ints}
+use Rattle.ics_starts.proofs.QuietLemmas.{quiet-by}
+use Rattle.ics_starts.proofs.rule_starts.RuleStarts.quiet_to.Goals as goal
+
+pub overflow_add-after : goal.overflow_add-after
+overflow_add-after c =
+    let settles : SFits w64 c.settled_at-settled.result = search rules in
+    omega (arith, ints, c.settled_at-settled.ensures.near)
+
+pub returns : goal.returns
+returns c =
+    let s = c.args.self.now in
+    let least : SFits w64 c.args.self.now.beyond = search rules in
+    let settles : SFits w64 c.settled_at-settled.result = search rules in
+    let near = c.settled_at-settled.ensures.near in
+    quiet-by s c.args.next c.requires.none (omega (arith, ints, int_min_is, c.min.ensures))
+    (omega (arith, ints, int_min_is, c.min.ensures, near)) c.settled_at-settled.ensures.after
