@@ -88,19 +88,19 @@ pub(crate) fn begun_before(
     Some(Mark { from, cursor })
 }
 
-/// The cursor of a rule at a local, where its search up to the midnight of day `end` begins. It goes on
+/// Sets a cursor to that of a rule at a local, where its search up to the midnight of day `end` begins. It goes on
 /// from a mark that is not later.
-pub(crate) fn begun(rule: &Rule, from: Local, end: i32, mark: Option<&Mark>) -> Cursor
+pub(crate) fn begin(cursor: &mut Cursor, rule: &Rule, from: Local, end: i32, mark: Option<&Mark>)
     requires from { IsDayNumber from.day }
     requires end { IsDayNumber end }
     requires early { midnight_number end ≤ rules_end }
     requires mark { MatchOption mark (Unit {0}) (λ m. IsCountMark rule.now m.now) }
-    ensures begun { IsBegun rule.now from result }
-    ensures looked { HasLookedTo rule.now from (int_min from.day end) result }
+    ensures begun { IsBegun rule.now from cursor.new }
+    ensures looked { HasLookedTo rule.now from (int_min from.day end) cursor.new }
 {
     match mark {
-        Some(mark) if is_passed(mark.from, from, end) => mark.moved_to(rule, from),
-        _ => Cursor::at(rule, from),
+        Some(mark) if is_passed(mark.from, from, end) => *cursor = mark.moved_to(rule, from),
+        _ => *cursor = Cursor::at(rule, from),
     }
 }
 

@@ -28,7 +28,7 @@ use crate::exclusion::Exclusions;
 use crate::instants::{bounds, instant_in, is_in, no_stretch, stretch, stretch_by};
 use crate::kept_locals::{KeptLocals, end, is_searched, known_next, leave, next, quiet};
 use crate::listed::lesser_past;
-use crate::mark::{Mark, begun, is_counted};
+use crate::mark::{Mark, begin, is_counted};
 use crate::shared_rule::SharedRule;
 use crate::starts::{end_nearby, is_until};
 use crate::zones::FileZones;
@@ -321,7 +321,8 @@ impl<'a> RuleStarts<'a> {
             bounds.most,
         );
         let day = from.day.min(end);
-        let begun = begun(rule.get(), from, end, mark.as_ref());
+        let mut cursor = Cursor::at(rule.get(), from);
+        begin(&mut cursor, rule.get(), from, end, mark.as_ref());
         let place = from.number();
         let next = Local::at(day, 0).seconds();
         RuleStarts {
@@ -332,7 +333,7 @@ impl<'a> RuleStarts<'a> {
             kept,
             bounds,
             from,
-            cursor: begun,
+            cursor,
             place,
             none_from: place,
             none_to: from,
@@ -375,7 +376,7 @@ impl<'a> RuleStarts<'a> {
         let next = Local::at(day, 0).seconds();
         let place = from.number();
         let asks = asks_from(self.stretch, self.from, from, next);
-        self.cursor = begun(self.rule.get(), from, end, mark);
+        begin(&mut self.cursor, self.rule.get(), from, end, mark);
         self.zones = zones;
         self.event = event;
         self.window = window;
@@ -544,13 +545,12 @@ impl<'a> RuleStarts<'a> {
         requires { is_unsettled self.old ≡ true }
         ensures left { starts_left self.new ≡ starts_left self.old }
         ensures source { HasSameSource self.old self.new }
-        ensures less { result ≡ true → steps_left self.new.day self.new.end (place_of self.new.cursor)
-            < steps_left self.old.day self.old.end (place_of self.old.cursor) }
+        ensures rest { result ≡ true → is_unsettled self.new ≡ false }
         ensures same { result ≡ false → steps_left self.new.day self.new.end (place_of self.new.cursor)
             ≡ steps_left self.old.day self.old.end (place_of self.old.cursor) }
         ensures behind { result ≡ false → is_unsettled self.new ≡ true }
     {
-        if !is_searched(&self.kept) || !is_sparse(self.event) || self.cursor.steps() == 0 {
+        if !is_searched(&self.kept) || self.cursor.steps() == 0 || !is_sparse(self.event) {
             return false;
         }
         let bound = self.bound();
@@ -572,7 +572,7 @@ impl<'a> RuleStarts<'a> {
         true
     }
 
-    /// Reads up to the next local, if the first of the starts still to come is not known. Whether it was not.
+    /// Reads up to the next local, if the first of the starts still to come is not known. Whether it may still not be.
     pub(crate) fn read_next(&mut self) -> Result<bool, AllocError>
         ensures same { starts_left self.new ≡ starts_left self.old }
         ensures source { HasSameSource self.old self.new }
@@ -580,11 +580,8 @@ impl<'a> RuleStarts<'a> {
         ensures less { IfOk result (λ more. more ≡ true → steps_left self.new.day self.new.end (place_of self.new.cursor)
             < steps_left self.old.day self.old.end (place_of self.old.cursor)) }
     {
-        if !self.is_behind() {
+        if !self.is_behind() || self.pass_rest() {
             return Ok(false);
-        }
-        if self.pass_rest() {
-            return Ok(true);
         }
         self.read_on()?;
         self.pass_end();

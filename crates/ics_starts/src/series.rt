@@ -290,7 +290,7 @@ fn starts_by_rule<'a>(
     Ok(Some(RuleStarts::new(alloc, zones, event, window, rule, from, mark, kept)))
 }
 
-/// Reads up to the next local of a rule, if the first of the starts that it still gives is not known. Whether it was not.
+/// Reads up to the next local of a rule, if the first of the starts that it still gives is not known. Whether it may still not be.
 fn read_rule(rule: &mut Option<RuleStarts<'_>>) -> Result<bool, AllocError>
     ensures same { rule_left rule.new ≡ rule_left rule.old }
     ensures rule { HasSameRule rule.old rule.new }
@@ -398,16 +398,12 @@ fn earlier_of(ruled: Option<Start>, listed: Option<Start>) -> Option<Start>
     ensures { (xs ys : List Start) → Rises moment_cmp xs → Rises moment_cmp ys → ruled ≡ slice_get xs 0 → listed ≡ slice_get ys 0
         → IsFirstOf result xs ys }
 {
-    match (ruled, listed) {
-        (Some(a), Some(b)) => {
-            if b.moment < a.moment {
-                Some(b)
-            } else {
-                Some(a)
-            }
-        }
-        (Some(a), None) => Some(a),
-        (None, listed) => listed,
+    let Some(b) = listed else {
+        return ruled;
+    };
+    match ruled {
+        Some(a) if a.moment <= b.moment => ruled,
+        _ => listed,
     }
 }
 
@@ -551,7 +547,7 @@ impl<'a> Series<'a> {
         Ok(())
     }
 
-    /// Reads up to the rule's next local, if the first of the starts that it still gives is not known. Whether it was not.
+    /// Reads up to the rule's next local, if the first of the starts that it still gives is not known. Whether it may still not be.
     fn read_next(&mut self) -> Result<bool, AllocError>
         ensures left { series_left self.new ≡ series_left self.old }
         ensures same { IsSameSeries self.old self.new }

@@ -45,8 +45,8 @@ end_nearby-end-requires-clause-most c =
     let off = ap (λ (v : Event). seconds_off v.start.stamp) c.event.view_is in
     omega (arith, ints, back, b.ensures.most, off)
 
-pub begun-self-requires-clause-early : goal.begun-self-requires-clause-early
-begun-self-requires-clause-early c =
+pub begin-requires-clause-early : goal.begin-requires-clause-early
+begin-requires-clause-early c =
     let w = c.args.window in
     let e = c.end_nearby-end.ensures in
     let soon = end-of-window w c.until_moment-until.result c.end_nearby-end.result c.event.view_is e.soon in
@@ -59,7 +59,7 @@ invariant_of-self c =
     let w = c.args.window in
     let e = c.end_nearby-end.ensures in
     let until = rw c.get.ensures at c.until_moment-until.ensures in
-    let begun = rw c.get-2.ensures at c.begun-self.ensures.begun in
+    let begun = rw c.get-2.ensures at c.begin.ensures.begun in
     let ends = ends-same w until c.event.view_is in
     let off = ap (λ (v : Event). seconds_off v.start.stamp) c.event.view_is in
     let most = end-of-window w c.until_moment-until.result c.end_nearby-end.result c.event.view_is e.soon in
@@ -92,7 +92,7 @@ invariant_of-self c =
       stretched = c.no_stretch-self.ensures _;
       spanned = ∣ tt ∣₁;
       own = begun.own;
-      looked = subst (λ d. HasLookedTo c.args.self.now.rule c.args.from d c.begun-self.result) (sym asked) (rw c.get-2.ensures at c.begun-self.ensures.looked);
+      looked = subst (λ d. HasLookedTo c.args.self.now.rule c.args.from d c.begin.new.cursor) (sym asked) (rw c.get-2.ensures at c.begin.ensures.looked);
       placed = c.number-place.ensures.value ∙ sym place;
       known = subst (λ (e : Event). IsKeptOf e s.kept) c.requires.same s.known;
       reached = record {
@@ -110,9 +110,9 @@ invariant_of-self c =
     }
 
 pub returns-clause-begun : goal.returns-clause-begun
-returns-clause-begun c = rw c.get-2.ensures at c.begun-self.ensures.begun
+returns-clause-begun c = rw c.get-2.ensures at c.begin.ensures.begun
 
 pub returns-clause-left : goal.returns-clause-left
 returns-clause-left c =
     come-empty c.args.zones c.args.event.now c.args.self.now.rule c.args.window (starts_in c.args.event.now.start c.clear.new.held)
-    (place_of c.begun-self.result) (number c.args.from) (ap (map (start_of c.args.event.now.start)) c.clear.ensures) c.begun-self.ensures.begun.place
+    (place_of c.begin.new.cursor) (number c.args.from) (ap (map (start_of c.args.event.now.start)) c.clear.ensures) c.begin.ensures.begun.place

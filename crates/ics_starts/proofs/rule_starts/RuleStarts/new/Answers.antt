@@ -51,14 +51,14 @@ lent : (P : Mark → Type 0) (lends : Option (Bor Mark)) → MatchOption (option
 lent P None h = tt
 lent P (Some m) h = h
 
-pub begun-begun-requires-clause-mark : goal.begun-begun-requires-clause-mark
-begun-begun-requires-clause-mark c =
-    lent (IsCountMark c.get-2.result.now) c.as_ref.result
-    (subst (λ m. MatchOption m (Unit {0}) (IsCountMark c.get-2.result.now)) (sym c.as_ref.ensures.value)
-    (subst (λ r. MatchOption c.args.mark (Unit {0}) (IsCountMark r)) (sym c.get-2.ensures) c.requires.mark))
+pub begin-requires-clause-mark : goal.begin-requires-clause-mark
+begin-requires-clause-mark c =
+    lent (IsCountMark c.get-3.result.now) c.as_ref.result
+    (subst (λ m. MatchOption m (Unit {0}) (IsCountMark c.get-3.result.now)) (sym c.as_ref.ensures.value)
+    (subst (λ r. MatchOption c.args.mark (Unit {0}) (IsCountMark r)) (sym c.get-3.ensures) c.requires.mark))
 
-pub begun-begun-requires-clause-early : goal.begun-begun-requires-clause-early
-begun-begun-requires-clause-early c =
+pub begin-requires-clause-early : goal.begin-requires-clause-early
+begin-requires-clause-early c =
     let w = c.args.window in
     let e = c.end_nearby-end.ensures in
     let soon = end-of-window w c.until_moment.result c.end_nearby-end.result c.event.view_is e.soon in
@@ -69,7 +69,7 @@ invariant_of-result c =
     let w = c.args.window in
     let e = c.end_nearby-end.ensures in
     let until = rw c.get.ensures at c.until_moment.ensures in
-    let begun = rw c.get-2.ensures at c.begun-begun.ensures.begun in
+    let begun = rw c.get-3.ensures at c.begin.ensures.begun in
     let ends = ends-same w until c.event.view_is in
     let off = ap (λ (v : Event). seconds_off v.start.stamp) c.event.view_is in
     let most = end-of-window w c.until_moment.result c.end_nearby-end.result c.event.view_is e.soon in
@@ -102,7 +102,7 @@ invariant_of-result c =
       stretched = c.no_stretch.ensures _;
       spanned = ∣ tt ∣₁;
       own = begun.own;
-      looked = subst (λ d. HasLookedTo c.args.rule c.args.from d c.begun-begun.result) (sym asked) (rw c.get-2.ensures at c.begun-begun.ensures.looked);
+      looked = subst (λ d. HasLookedTo c.args.rule c.args.from d c.begin.new.cursor) (sym asked) (rw c.get-3.ensures at c.begin.ensures.looked);
       placed = c.number-place.ensures.value ∙ sym place;
       known = c.requires.kept;
       reached = record {
@@ -120,9 +120,9 @@ invariant_of-result c =
     }
 
 pub returns-clause-begun : goal.returns-clause-begun
-returns-clause-begun c = rw c.get-2.ensures at c.begun-begun.ensures.begun
+returns-clause-begun c = rw c.get-3.ensures at c.begin.ensures.begun
 
 pub returns-clause-left : goal.returns-clause-left
 returns-clause-left c =
-    come-empty c.args.zones c.args.event.now c.args.rule c.args.window (starts_in c.args.event.now.start c.new.result) (place_of c.begun-begun.result)
-    (number c.args.from) (ap (map (start_of c.args.event.now.start)) c.new.ensures) c.begun-begun.ensures.begun.place
+    come-empty c.args.zones c.args.event.now c.args.rule c.args.window (starts_in c.args.event.now.start c.new.result) (place_of c.begin.new.cursor)
+    (number c.args.from) (ap (map (start_of c.args.event.now.start)) c.new.ensures) c.begin.ensures.begun.place
