@@ -11,7 +11,7 @@ ghost use Rattle.ics_zone.specs.Inner.ZoneOnsets.{AreSteady};
 use crate::Stretch;
 use crate::gap_stretch::told_gap;
 use crate::latest::Steady;
-use crate::stretches::{NO_OFFSET, all_from, narrowed, span_over};
+use crate::stretches::{NO_OFFSET, all_from, begun_by, last_over, narrowed};
 use ics_fields::Moment;
 use std::alloc::Global;
 
@@ -66,12 +66,15 @@ pub(crate) fn told_stretch(offsets: &[i32], spans: &[Steady], seconds: i64) -> O
         → IfSome result (IsStretch offset (moment_by offset)) }
 {
     let mut stretch = all_from(seconds);
+    let mut begun = 0;
     for offset in offsets {
         if i64::from(*offset) <= stretch.offset {
             continue;
         }
         let at = seconds - i64::from(*offset);
-        let span = span_over(spans, at, at)?;
+        // The instants rise from offset to offset.
+        begun = begun_by(spans, begun, at);
+        let span = last_over(spans, begun, at, at)?;
         stretch = narrowed(stretch, *offset, &span);
     }
     if stretch.is_empty() {

@@ -1,5 +1,5 @@
 //! Stretches of locals by spans with one offset each.
-ghost use Rattle.std.specs.Prelude.{◌≡◌, ℤ, pos, neg_ℤ, ◌<ℤ◌, ◌≤ℤ◌, IfSome};
+ghost use Rattle.std.specs.Prelude.{◌≡◌, ◌≤◌, ℤ, pos, neg_ℤ, ◌<ℤ◌, ◌≤ℤ◌, IfSome, length};
 ghost use Rattle.ics_zone.specs.Seconds.{IsMoment};
 ghost use Rattle.ics_zone.specs.Inner.Narrowed.{IsNarrowed};
 ghost use Rattle.ics_zone.specs.Inner.ZoneOnsets.{AreSteady, IsSteady};
@@ -14,12 +14,28 @@ pub(crate) const FAR: i64 = 300_000_000_000;
 /// Less than each offset.
 pub(crate) const NO_OFFSET: i64 = -86_400;
 
+/// How many spans are passed one by one, before those that begin by an instant are searched for.
+const PASSED: usize = 8;
+
 /// The span of those in order that reaches from one instant to another, if there is one.
 pub(crate) fn span_over(spans: &[Steady], from: Moment, to: Moment) -> Option<Steady>
     ensures over { IfSome result (λ s. (s.from ≤ℤ from) × (to <ℤ s.next)) }
     ensures steady { (offset : ℤ → ℤ) → AreSteady offset spans.now → IfSome result (λ s. IsSteady offset s.from s.next s.offset) }
 {
-    let begun = spans.partition_point(|span| span.from <= from);
+    last_over(
+        spans,
+        spans.partition_point(|span| span.from <= from),
+        from,
+        to,
+    )
+}
+
+/// The last of so many spans, if it reaches from one instant to another.
+pub(crate) fn last_over(spans: &[Steady], begun: usize, from: Moment, to: Moment) -> Option<Steady>
+    requires { begun ≤ length spans.now }
+    ensures over { IfSome result (λ s. (s.from ≤ℤ from) × (to <ℤ s.next)) }
+    ensures steady { (offset : ℤ → ℤ) → AreSteady offset spans.now → IfSome result (λ s. IsSteady offset s.from s.next s.offset) }
+{
     if begun == 0 {
         return None;
     }
@@ -29,6 +45,18 @@ pub(crate) fn span_over(spans: &[Steady], from: Moment, to: Moment) -> Option<St
     } else {
         None
     }
+}
+
+/// How many spans begin by an instant, of those in order, if so many do at least. Where few more do, these are passed one by one.
+pub(crate) fn begun_by(spans: &[Steady], least: usize, at: Moment) -> usize
+    ensures { result ≤ length spans.now }
+{
+    for k in least..spans.len().min(least.saturating_add(PASSED)) {
+        if spans[k].from > at {
+            return k;
+        }
+    }
+    spans.partition_point(|span| span.from <= at)
 }
 
 /// The locals from one on, given by its seconds, before it is known which offset shows them.
