@@ -152,6 +152,26 @@ pub(crate) fn first_listed(onsets: &[Onsets]) -> Moment {
     first
 }
 
+/// Whether a rule has onsets on most days from an instant on and up to another.
+fn runs_on(one: &Onsets, from: Moment, to: Moment) -> bool {
+    match one.listed.first() {
+        Some(first) => one.by_days && one.rule.is_some() && *first <= from && to <= one.until,
+        None => false,
+    }
+}
+
+/// About how many onsets the rules have from an instant on and up to another that have some on most days then.
+pub(crate) fn running_onsets(onsets: &[Onsets], from: Moment, to: Moment) -> u64 {
+    let seconds = u64::try_from(to.saturating_sub(from)).unwrap_or(0);
+    let mut count: u64 = 0;
+    for one in onsets {
+        if runs_on(one, from, to) {
+            count = count.saturating_add(seconds / one.ago.max(1));
+        }
+    }
+    count
+}
+
 /// The greatest onset that is not after an instant, by instant and then by place. It is searched for in the seconds before the instant, so many at
 /// first, and further back each time that there is none.
 pub(crate) fn latest_of(onsets: &[Onsets], ago: i64, moment: Moment) -> Option<Latest>

@@ -18,7 +18,8 @@ use crate::clock::{FIRST_HELD, LAST_HELD, is_moment};
 use crate::gap_stretch::{Jump, greatest};
 use crate::latest::{
     Latest, NO_ONSET, Steady, clear_after, find_each, first_listed, first_offset, latest_of,
-    latest_within, look_on, next_change, next_other, next_past, overrides, turns_after,
+    latest_within, look_on, next_change, next_other, next_past, overrides, running_onsets,
+    turns_after,
 };
 use crate::onsets::Onsets;
 use crate::seconds::OffsetEachSecond;
@@ -642,7 +643,7 @@ impl Observed {
         if let Some(long) = self.made_on(seconds) {
             return long;
         }
-        let mut ahead = AHEAD;
+        let mut ahead = self.listed_ahead(seconds);
         while ahead >= HOUR {
             if let Some(spans) = self.listed_spans(seconds, ahead) {
                 return (seconds + ahead, spans);
@@ -666,6 +667,31 @@ impl Observed {
             return None;
         }
         self.spans_between(from, seconds - DAY, last, self.listed_for(ahead))
+    }
+
+    /// For how many seconds on the spans about a local, given by its seconds, are listed first: half as many, again and again, where the onsets by the
+    /// rules that run on are too many.
+    fn listed_ahead(&self, seconds: i64) -> i64
+        requires { IsMoment seconds }
+        ensures some { pos 0 ≤ℤ result }
+        ensures most { result ≤ℤ pos 34_560_000 }
+    {
+        let running = running_onsets(&self.onsets, seconds, seconds + AHEAD);
+        let mut ahead = AHEAD;
+        while ahead >= 2 * HOUR && self.are_too_many(running, ahead) {
+            ahead /= 2;
+        }
+        ahead
+    }
+
+    /// Whether more onsets are expected than are listed for so many seconds on, where so many are in `AHEAD` seconds.
+    fn are_too_many(&self, running: u64, ahead: i64) -> bool
+        requires some { pos 0 ≤ℤ ahead }
+        requires most { ahead ≤ℤ pos 34_560_000 }
+    {
+        let seconds = ahead + 2 * (DAY + beside(ahead));
+        let expected = running.saturating_mul(seconds as u64) / AHEAD as u64;
+        expected.saturating_add(self.onsets.len() as u64) > self.listed_for(ahead) as u64
     }
 
     /// How many onsets are listed at most for stretches of so many seconds on.
