@@ -11,7 +11,7 @@ use Rattle.std.proofs.Math.Seq.{map-set_same, take-append_seam}
 use Rattle.std.proofs.lemmas.Simd.{map-map}
 use Rattle.ics_listing.specs.Entry.{Entry, entry_cmp, entry_of}
 use Rattle.ics_listing.specs.Inner.EntryLaws.{entry_total}
-use Rattle.ics_listing.specs.Leads.{listed, past, to_draw, ComeAfter, AreFrom, IsAhead, IsEmpty, AreNear, HasNear}
+use Rattle.ics_listing.specs.Leads.{listed, past, to_draw, ComeAfter, AreFrom, IsAhead, IsEmpty, IsFresh, AreNear, HasNear}
 use Rattle.ics_listing.specs.Merged.{cut, merged, union}
 use Rattle.ics_listing.specs.Inner.MergedLaws.{before-tied, before-trans}
 use Rattle.ics_listing.proofs.Cases.{eq-Equal, some-same, up-to-front}
@@ -367,6 +367,24 @@ pub flat-set : {X Y : Type 0} (f : X → List Y) (xs : List X) (i : ℕ) {old : 
 flat-set f [] i new read e = refl
 flat-set f (x ∷ xs) zero new read e = ap (λ ys. ys ++ flat_map f xs) (e ∙ ap f read)
 flat-set f (x ∷ xs) (suc i) new read e = ap (λ ys. f x ++ ys) (flat-set f xs i new read e)
+
+-- a lead that was not read yet holds nothing
+pub unread-list : (unread : Option ℤ) (head : Option Occurrence) (rest : List Entry) {from : ℤ} → IsAhead unread head rest → unread ≡ Some from
+    → listed head rest ≡ rest
+unread-list (Some f) None rest a e = refl
+unread-list (Some f) (Some o) rest a e = absurd a
+unread-list None head rest {from = from} a e = let no : None ≡ Some from = e in absurd cc
+
+-- nothing was drawn from any of these
+module _ {X : Type 0} (head : X → Option Occurrence) (rest : X → List Entry) (N : X → Entry → Type 0) where
+  pub fresh-lists : (xs : List X) → AllByRecursion (λ x. IsFresh (N x) (head x) (rest x)) xs → map (λ x. listed (head x) (rest x)) xs ≡ map rest xs
+  fresh-lists [] h = refl
+  fresh-lists (x ∷ xs) h = (λ i. listed (h.0.0 i) (rest x) ∷ fresh-lists xs h.1 i)
+
+  pub fresh-near : (xs : List X) → AllByRecursion (λ x. IsFresh (N x) (head x) (rest x)) xs
+      → AllByRecursion (λ x. AreNear (N x) (listed (head x) (rest x))) xs
+  fresh-near xs = all-as (λ x. IsFresh (N x) (head x) (rest x)) (λ x. AreNear (N x) (listed (head x) (rest x))) xs
+      (λ x h o m. h.1 o (subst (λ held. IsIn o (listed held (rest x))) h.0 m))
 
 past-in : (last : Option Occurrence) (o : Entry) (list : List Entry) → IsIn o (past last list) → IsIn o list
 past-in None o list m = m

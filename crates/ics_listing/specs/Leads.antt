@@ -1,5 +1,5 @@
 -- The lists of the leads of a merge: what was drawn from a feed, and what is left of it.
-use Rattle.std.specs.Prelude.{ℕ, suc, ℤ, ◌≤ℤ◌, Bool, false, List, [], ◌∷◌, length, ⊤, Option, Some, None}
+use Rattle.std.specs.Prelude.{◌≡◌, ℕ, suc, ℤ, ◌≤ℤ◌, Bool, false, List, [], ◌∷◌, length, ⊤, Option, Some, None}
 use Rattle.std.specs.Coded.{Unit-prop, Π_prop}
 use Rattle.std.proofs.Props.{props}
 use Rattle.std.specs.List.{AllByRecursion, AllByRecursion-prop}
@@ -78,6 +78,10 @@ AreNear P list = (o : Entry) → IsIn o list → P o
 
 pub AreNear-prop : (P : Entry → Type 0) → ((o : Entry) → IsProp (P o)) → (list : List Entry) → IsProp (AreNear P list)
 AreNear-prop P h list = Π_prop λ o. Π_prop λ m. h o
+
+-- nothing was drawn, and P is true of each entry that is to come
+abbrev pub IsFresh : (Entry → Type 0) → Option Occurrence → List Entry → Type 0
+IsFresh P head list = (head ≡ None) × AreNear P list
 
 -- P is true of an occurrence, if that is in a list
 abbrev pub HasNear : (Entry → Type 0) → List Entry → Entry → Type 0

@@ -1,7 +1,7 @@
 //! A feed whose first occurrence is known, or from when on it gives any.
-ghost use Rattle.std.specs.Prelude.{◌≡◌, ◌-◌, ◌^◌, None, length, min, IfOk, OnErr, OnOk};
+ghost use Rattle.std.specs.Prelude.{◌≡◌, ◌-◌, ◌^◌, None, length, min, OnErr, OnOk};
 ghost use Rattle.std.specs.Option.{option_map};
-ghost use Rattle.ics_listing.specs.Leads.{listed, AreNear, IsAhead, IsAhead-prop};
+ghost use Rattle.ics_listing.specs.Leads.{listed, AreNear, IsAhead, IsAhead-prop, IsFresh};
 ghost use Rattle.ics_listing.specs.Inner.Tournament.{turn_of};
 
 use crate::feed::{Begins, Coming, Feed};
@@ -45,27 +45,18 @@ impl<'a, F: Coming> Lead<'a, F> {
     }
 }
 
-impl<'a, F: Feed<'a> + Begins + Drop> Lead<'a, F> {
-    /// The lead of a feed, which is read at once if it begins by an instant.
-    pub(crate) fn new(mut feed: F, soon: Moment) -> Result<Lead<'a, F>, AllocError>
-        ensures list { IfOk result (λ lead. listed lead.head (F.coming lead.feed) ≡ F.coming feed) }
-        ensures sources { IfOk result (λ lead. F.sources lead.feed ≡ F.sources feed) }
-        ensures near { IfOk result (λ lead. AreNear (F.near lead.feed) (F.coming feed)) }
+impl<'a, F: Begins> Lead<'a, F> {
+    /// The lead of a feed. Nothing is drawn from it yet.
+    pub fn of(feed: F) -> Lead<'a, F>
+        ensures feed { result.feed ≡ feed }
+        ensures fresh { IsFresh (F.near result.feed) result.head (F.coming result.feed) }
     {
         let from = feed.from();
-        if from > soon {
-            return Ok(Lead {
-                feed,
-                unread: Some(from),
-                head: None,
-            });
-        }
-        let head = feed.next()?;
-        Ok(Lead {
+        Lead {
             feed,
-            unread: None,
-            head,
-        })
+            unread: Some(from),
+            head: None,
+        }
     }
 }
 
@@ -84,6 +75,22 @@ impl<'a, F: Feed<'a>> Lead<'a, F> {
         self.unread = None;
         self.head = next;
         Ok(())
+    }
+
+    /// Draws the first, if nothing was read yet and it may start by an instant. The result is the lesser of that instant and of the first
+    /// start that is known.
+    pub(crate) fn read_by(&mut self, soon: Moment) -> Result<Moment, AllocError>
+        ensures list { listed self.new.head (F.coming self.new.feed) ≡ listed self.old.head (F.coming self.old.feed) }
+        ensures sources { F.sources self.new.feed ≡ F.sources self.old.feed }
+        ensures near { AreNear (F.near self.old.feed) (listed self.old.head (F.coming self.old.feed))
+            → AreNear (F.near self.new.feed) (listed self.new.head (F.coming self.new.feed)) }
+    {
+        if let Some(from) = self.unread {
+            if from <= soon {
+                self.draw()?;
+            }
+        }
+        Ok(soon.min(self.from().unwrap_or(soon)))
     }
 }
 

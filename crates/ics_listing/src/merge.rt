@@ -1,10 +1,10 @@
 //! The merge of feeds.
-ghost use Rattle.std.specs.Prelude.{◌≡◌, ◌<◌, ◌-◌, ◌^◌, [], true, false, All, IfOk, OnOk, length, map, min, sum_by};
+ghost use Rattle.std.specs.Prelude.{◌≡◌, ◌<◌, ◌-◌, ◌^◌, [], true, false, All, IfOk, OnErr, OnOk, length, map, min, sum_by};
 ghost use Rattle.std.specs.List.{flat_map, AllByRecursion, AllByRecursion-prop};
 ghost use Rattle.std.specs.Option.{option_map};
 ghost use Rattle.ics_listing.specs.Entry.{entry_cmp, entry_of};
 ghost use Rattle.ics_listing.specs.Inner.EntryLaws.{entry_total};
-ghost use Rattle.ics_listing.specs.Leads.{listed, past, to_draw, AreNear, AreNear-prop, ComeAfter, ComeAfter-prop, HasNear, HasNear-prop};
+ghost use Rattle.ics_listing.specs.Leads.{listed, past, to_draw, AreNear, AreNear-prop, ComeAfter, ComeAfter-prop, HasNear, HasNear-prop, IsFresh};
 ghost use Rattle.ics_listing.specs.Merged.{merged};
 ghost use Rattle.ics_listing.specs.Inner.MergedLaws.{rises-merged};
 ghost use Rattle.ics_listing.specs.Inner.Tournament.{first_turn, held_by, is_unread, must_draw, node_count, turn_of, AreSettled};
@@ -53,37 +53,60 @@ impl<'a, F: Feed<'a> + Begins + Drop> Merge<'a, F> {
         ensures coming { IfOk result (λ merge. ⟦<Merge<'a, F> as Coming>⟧.coming merge ≡ merged entry_cmp (map F.coming feeds.items)) }
         ensures sources { IfOk result (λ merge. ⟦<Merge<'a, F> as Coming>⟧.sources merge ≡ flat_map F.sources feeds.items) }
     {
-        let none = feeds.len();
-        Merge::of_sorted(alloc, feeds, none, Moment::MIN)
+        let mut leads: Vec<Lead<'a, F>> = Vec::with_capacity(alloc, feeds.len())?;
+        for feed in feeds {
+            leads.push(Lead::of(feed))?;
+        }
+        let none = leads.len();
+        let mut merge: Merge<'a, F> = Merge::none(alloc);
+        merge.begin(alloc, leads, none, Moment::MIN)?;
+        Ok(merge)
     }
 
-    /// The merge of these feeds. From a place on each is of one UID, and they stand in the order of
-    /// their UIDs. A feed that begins by an instant, and by the first start that is known, is read at once:
-    /// it is to be read soon, and many are put in order faster together than one by one.
-    pub fn of_sorted(
+    /// Begins with these leads, from which nothing was drawn yet, in place of what was to come. From a place on the feed of each is of one
+    /// UID, and they stand in the order of their UIDs. A feed that begins by an instant, and by the first start that is known, is read at
+    /// once: it is to be read soon, and many are put in order faster together than one by one. After an `AllocError` nothing has changed.
+    pub fn begin(
+        &mut self,
         alloc: Global,
-        feeds: Vec<F>,
+        mut leads: Vec<Lead<'a, F>>,
         sorted_from: usize,
         mut soon: Moment,
-    ) -> Result<Merge<'a, F>, AllocError>
-        requires { AreSortedFrom sorted_from (map F.coming feeds.items) }
-        ensures coming { IfOk result (λ merge. ⟦<Merge<'a, F> as Coming>⟧.coming merge ≡ merged entry_cmp (map F.coming feeds.items)) }
-        ensures sources { IfOk result (λ merge. ⟦<Merge<'a, F> as Coming>⟧.sources merge ≡ flat_map F.sources feeds.items) }
+    ) -> Result<(), AllocError>
+        requires fresh { AllByRecursion (λ l. IsFresh (F.near l.feed) l.head (F.coming l.feed)) leads.items }
+        requires sorted { AreSortedFrom sorted_from (map (λ l. F.coming l.feed) leads.items) }
+        ensures coming { OnOk result (⟦<Merge<'a, F> as Coming>⟧.coming self.new ≡ merged entry_cmp (map (λ l. F.coming l.feed) leads.entry.items)) }
+        ensures sources { OnOk result (⟦<Merge<'a, F> as Coming>⟧.sources self.new ≡ flat_map (λ l. F.sources l.feed) leads.entry.items) }
+        ensures err { OnErr result (self.new ≡ self.old) }
     {
-        let mut leads = Vec::with_capacity(alloc, feeds.len())?;
-        for feed in feeds {
-            let lead = Lead::new(feed, soon)?;
-            soon = soon.min(lead.from().unwrap_or(soon));
-            leads.push(lead)?;
+        let mut place = 0;
+        while place < leads.len() {
+            soon = leads[place].read_by(soon)?;
+            place += 1;
         }
         let winners = winners(alloc, &leads, sorted_from)?;
-        Ok(Merge {
-            leads,
-            winners,
+        self.leads = leads;
+        self.winners = winners;
+        self.last = None;
+        self.source = 0;
+        self.sorted_from = sorted_from;
+        Ok(())
+    }
+}
+
+impl<'a, F: Coming> Merge<'a, F> {
+    /// The merge of no feeds.
+    pub fn none(alloc: Global) -> Merge<'a, F>
+        ensures coming { ⟦<Merge<'a, F> as Coming>⟧.coming result ≡ [] }
+        ensures sources { ⟦<Merge<'a, F> as Coming>⟧.sources result ≡ [] }
+    {
+        Merge {
+            leads: Vec::new(alloc),
+            winners: Vec::new(alloc),
             last: None,
             source: 0,
-            sorted_from,
-        })
+            sorted_from: 0,
+        }
     }
 }
 

@@ -1,6 +1,6 @@
 -- The spans of masters of which nothing is to come near a day.
-use Rattle.std.proofs.Common.{◌≡◌, ◌∙◌, ℕ, ℤ, pos, ◌+ℤ◌, ◌-ℤ◌, ◌<ℤ◌, ◌≤ℤ◌, List, [], ◌∷◌, ◌++◌, Option, Some, None, ◌⊎◌, inl, inr, ⊎_elim, false}
-use Rattle.std.proofs.Common.{map, refl, sym, ap, subst, arith, slice_get, get_or, length, nat_cmp, is_ok, Bool, true, Equal, Result, Ok, Err, IfOk, HoldsAt}
+use Rattle.std.proofs.Common.{◌≡◌, ◌∙◌, ℕ, ℤ, pos, ◌+ℤ◌, ◌-ℤ◌, ◌<ℤ◌, ◌≤ℤ◌, List, [], ◌∷◌, Option, Some, None, ◌⊎◌, inl, inr, ⊎_elim, false}
+use Rattle.std.proofs.Common.{map, refl, sym, ap, subst, arith, slice_get, get_or, length, nat_cmp, is_ok, true, Equal, Result, Ok, Err, IfOk, HoldsAt}
 use Rattle.std.specs.List.Sorted.{IsSearchInRange}
 use Rattle.std.proofs.lemmas.Map.Lookups.{exact_unsigned}
 use Rattle.std.specs.Option.{unwrap_or}
@@ -19,18 +19,17 @@ use Rattle.ics_listing.proofs.ListingLemmas.{all-as, get-in, in-contains}
 use Rattle.ics_days.specs.NearDays.{IsNearDay}
 use Rattle.ics_series.specs.DaySteps.{IsDayMaster, IsNearAgenda, IsPastAgenda, Scope}
 use Rattle.ics_series.specs.HeldMost.{Master}
-use Rattle.ics_series.specs.Inner.Ended.{end_of, AreMovedOff, HasEnded, HaveEnded, IsMasterAt, IsOver, IsOverPart}
+use Rattle.ics_series.specs.Inner.Ended.{end_of, AreMovedOff, HasEnded, HaveEnded, IsMasterAt, IsOver}
 use Rattle.ics_days.specs.Spans.{always, first_at}
 use Rattle.ics_series.specs.Inner.Spans.{AreSpansAfter, IsKeptFrom, IsPutOff, IsRest, floor_of}
 use Rattle.ics_series.specs.Chosen.{IsMaster}
-use Rattle.ics_series.specs.Inner.Kept.{IsEventOfMaster, IsPartOf}
+use Rattle.ics_series.specs.Inner.Kept.{IsEventOfMaster}
 use Rattle.ics_series.specs.Inner.Marks.{marks-prop, AreMarks, IsPut, StayMarks}
 use Rattle.ics_series.specs.Meets.{IsListed, IsToCome}
 use Rattle.ics_series.specs.PlacedEvents.{Placed, clocks_at}
 use Rattle.ics_series.specs.Sources.{recurring, IsMasterOf}
 use Rattle.ics_series.specs.Spots.{event_at}
 use Rattle.ics_series.specs.Versions.{label_of, seen, AreChosen, Label}
-use Rattle.ics_series.specs.declared.part.Part.{Part}
 use Rattle.ics_days.specs.declared.span.Span.{Span}
 use Rattle.ics_series.specs.declared.version.Version.{Version}
 use Rattle.ics_starts.specs.Instances.{IsOf}
@@ -38,7 +37,6 @@ use Rattle.ics_starts.specs.MeetsWindow.{Meets}
 use Rattle.ics_starts.specs.RuleMarks.{IsMarkOf}
 use Rattle.ics_starts.specs.declared.mark.Mark.{Mark}
 use Rattle.ics_starts.specs.SingleEvents.{is_single}
-use Rattle.ics_series.proofs.KnownLemmas.{all-last}
 use Rattle.ics_series.proofs.MarkLemmas.{marks-put}
 use Rattle.ics_series.proofs.OccursLemmas.{master-subject}
 use Rattle.ics_series.proofs.SpanLemmas.{from-first, low-start, meets-before, near-later, rest-span}
@@ -50,17 +48,13 @@ module _ {vs : List Version} {near : List ℕ} where
   pub moved_none : {IsKnown : Scope → ℤ → Type 0} (spans : List Span) → AreMovedOff vs near IsKnown spans spans
   moved_none spans = record { size = refl; others = λ k away. refl; still = λ s day chosen known are. are }
 
-  -- those of the feeds before one, and of that one
-  pub moved-more : {L : Type 0} (feed : L → Part) {over : Bool} (ys : List L) (y : L) {part : Part} {old mid new : List Span} → part ≡ feed y
-      → AreMovedOff vs near (λ s day. over ≡ true → AllByRecursion (λ l. IsOverPart s day (feed l)) ys) old mid
-      → AreMovedOff vs near (λ s day. over ≡ true → IsOverPart s day part) mid new
-      → AreMovedOff vs near (λ s day. over ≡ true → AllByRecursion (λ l. IsOverPart s day (feed l)) (ys ++ y ∷ [])) old new
-  moved-more feed ys y is a b = record {
+  -- and then moved by what is known too
+  pub moved-then : {IsKnown IsNext : Scope → ℤ → Type 0} {old mid new : List Span} → AreMovedOff vs near IsKnown old mid → AreMovedOff vs near IsNext mid new
+      → ((s : Scope) (day : ℤ) → IsKnown s day → IsNext s day) → AreMovedOff vs near IsKnown old new
+  moved-then a b next = record {
     size = b.size ∙ a.size;
     others = λ k away. b.others k away ∙ a.others k away;
-    still = λ s day chosen known are.
-        b.still s day chosen (λ t. subst (IsOverPart s day) (sym is) (all-last ys y (λ l. IsOverPart s day (feed l)) (known t)).1)
-        (a.still s day chosen (λ t. (all-last ys y (λ l. IsOverPart s day (feed l)) (known t)).0) are);
+    still = λ s day chosen known are. b.still s day chosen (next s day known) (a.still s day chosen known are);
   }
 
 -- so of what more is known
@@ -158,15 +152,13 @@ label-at {files = files} {display = display} {vs = vs} chosen {by = by} is {k = 
 pub stay_none : {vs : List Version} {IsKnown : List FileSaid → Clock → Type 0} (marks : List (Option Mark)) → StayMarks vs IsKnown marks marks
 stay_none marks = record { still = λ files display chosen known are. are }
 
--- those of the feeds before one, and of that one
-pub stay-more : {vs : List Version} {L : Type 0} (feed : L → Part) (ys : List L) (y : L) {part : Part} {old mid new : List (Option Mark)} → part ≡ feed y
-    → StayMarks vs (λ files display. AllByRecursion (λ l. IsPartOf files display (feed l)) ys) old mid
-    → StayMarks vs (λ files display. IsPartOf files display part) mid new
-    → StayMarks vs (λ files display. AllByRecursion (λ l. IsPartOf files display (feed l)) (ys ++ y ∷ [])) old new
-stay-more feed ys y is a b = record {
-  still = λ files display chosen parts are.
-      let both = all-last ys y (λ l. IsPartOf files display (feed l)) parts in
-      b.still files display chosen (subst (IsPartOf files display) (sym is) both.1) (a.still files display chosen both.0 are);
+-- and then those of what is known too
+pub stay-then : {vs : List Version} {IsKnown IsNext : List FileSaid → Clock → Type 0} {old mid new : List (Option Mark)} → StayMarks vs IsKnown old mid
+    → StayMarks vs IsNext mid new → ((files : List FileSaid) (display : Clock) → IsKnown files display → IsNext files display)
+    → StayMarks vs IsKnown old new
+stay-then a b next = record {
+  still = λ files display chosen known are.
+      b.still files display chosen (next files display known) (a.still files display chosen known are);
 }
 
 module _ {files : List FileSaid} {display : Clock} {vs : List Version} (chosen : AreChosen files display vs) {event : Event}

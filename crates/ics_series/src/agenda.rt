@@ -1,5 +1,6 @@
 //! The listing of a window.
-ghost use Rattle.std.specs.Prelude.{◌≡◌, ◌≤◌, ◌-◌, ◌^◌, ℕ, List, [], filter, length, map, min, sum_by, true, IfOk};
+ghost use Rattle.std.specs.Prelude.{◌≡◌, ◌≤◌, ◌-◌, ◌^◌, ℕ, List, [], filter, length, map, min, sum_by, true, IfOk, OnErr, OnOk};
+ghost use Rattle.std.specs.List.{AllByRecursion};
 ghost use Rattle.std.specs.List.Sorted.{IsSorted};
 ghost use Rattle.std.specs.Option.{option_map};
 ghost use Rattle.std.specs.Ordering.{on};
@@ -9,6 +10,7 @@ ghost use Rattle.ics_starts.specs.Clocks.{display_clock};
 ghost use Rattle.ics_listing.specs.Entry.{Entry, entry_cmp, entry_of, key_rank, rank_of};
 ghost use Rattle.ics_series.specs.HeldMost.{held_most};
 ghost use Rattle.ics_series.specs.Holding.{part_holds, part_looked};
+ghost use Rattle.ics_listing.specs.Leads.{IsFresh};
 ghost use Rattle.ics_listing.specs.Listing.{IsIn, IsListing};
 ghost use Rattle.ics_series.specs.Inner.Kept.{AreKept};
 ghost use Rattle.ics_series.specs.Inner.Marks.{AreMarks};
@@ -18,7 +20,7 @@ ghost use Rattle.ics_listing.specs.Merges.{merge_all, merge_coming, merge_holds,
 ghost use Rattle.ics_listing.specs.Inner.MergesLaws.{rises-merge};
 ghost use Rattle.ics_series.specs.Occurs.{Occurs};
 ghost use Rattle.ics_series.specs.Overridden.{is_kept};
-ghost use Rattle.ics_series.specs.AgendaParts.{part_coming, part_sources, IsFirstPart};
+ghost use Rattle.ics_series.specs.AgendaParts.{part_coming, part_near, part_sources, IsFirstPart};
 ghost use Rattle.ics_series.specs.Sources.{master_of, recurring, AreApart, AreApart-prop, AreSources};
 ghost use Rattle.ics_listing.specs.FeedSources.{Recurring};
 ghost use Rattle.ics_series.specs.Steps.{HasStepBound};
@@ -80,8 +82,10 @@ impl<'a> Agenda<'a> {
         let mut marks = Vec::new(alloc);
         let mut kept = Vec::new(alloc);
         let mut shared = Vec::new(alloc);
-        Agenda::of(
+        let mut agenda: Agenda<'a> = Agenda::none(alloc);
+        agenda.search(
             alloc,
+            Vec::new(alloc),
             files,
             display,
             &chosen,
@@ -94,14 +98,17 @@ impl<'a> Agenda<'a> {
             window,
             after,
             None,
-        )
+        )?;
+        Ok(agenda)
     }
 
-    /// Those of the versions that count, which are at the near places. The spans, if there are any, say which of them need not be read, and
-    /// are moved on where nothing is that begins at the floor or later. The marks say from where on rules under
-    /// COUNT are searched.
-    pub(crate) fn of(
+    /// Searches those of the versions that count, which are at the near places, in place of what was searched before. The leads, of which there
+    /// are none yet, may have room. The spans, if there are any, say which of the versions need not be read, and are moved on where nothing is that
+    /// begins at the floor or later. The marks say from where on rules under COUNT are searched.
+    pub(crate) fn search(
+        &mut self,
         alloc: Global,
+        mut leads: Vec<Lead<'a, Part<'a>>>,
         files: &'a [FileEvents],
         display: &'a Display,
         chosen: &[Version<'a>],
@@ -114,7 +121,8 @@ impl<'a> Agenda<'a> {
         window: Window,
         after: Option<&Key>,
         floor: Option<Moment>,
-    ) -> Result<Agenda<'a>, AllocError>
+    ) -> Result<(), AllocError>
+        requires leads { leads.items ≡ [] }
         requires chosen { AreChosen (map said_by files.now) (display_clock display.now) chosen.now }
         requires spans { AreSpans (map said_by files.now) (display_clock display.now) window floor (map seen chosen.now) spans.old.items }
         requires overrides { map seen overrides.now ≡ filter is_override (map seen chosen.now) }
@@ -129,37 +137,38 @@ impl<'a> Agenda<'a> {
         ensures marks { AreMarks (map said_by files.entry.now) (map seen chosen.entry.now) marks.new.items }
         ensures kept { AreKept (map said_by files.entry.now) (display_clock display.entry.now) kept.new.items }
         ensures shared { AreShared (map seen chosen.entry.now) shared.new.items }
-        ensures listing { IfOk result (λ agenda. IsListing entry_cmp
+        ensures listing { OnOk result (IsListing entry_cmp
             (IsToCome (map said_by files.entry.now) (display_clock display.entry.now) window
             (option_map (λ key. key_rank key.now) after.entry))
-            (⟦<Agenda<'a> as Coming>⟧.coming agenda)) }
-        ensures sources { IfOk result (λ agenda. AreSources (map said_by files.entry.now) (display_clock display.entry.now) window
-            (option_map (λ key. key_rank key.now) after.entry) (⟦<Agenda<'a> as Coming>⟧.sources agenda)) }
+            (⟦<Agenda<'a> as Coming>⟧.coming self.new)) }
+        ensures sources { OnOk result (AreSources (map said_by files.entry.now) (display_clock display.entry.now) window
+            (option_map (λ key. key_rank key.now) after.entry) (⟦<Agenda<'a> as Coming>⟧.sources self.new)) }
+        ensures err { OnErr result (self.new.merge ≡ self.old.merge) }
     {
         let singles = Singles::new(
             alloc, files, display, chosen, near, spans, overrides, &window, after,
         )?;
-        let mut parts = first_part(alloc, singles)?;
-        let sorted_from = parts.len();
+        push_first(&mut leads, singles)?;
+        let sorted_from = leads.len();
         push_series(
-            alloc, &mut parts, files, display, chosen, near, spans, marks, kept, shared, window,
+            alloc, &mut leads, files, display, chosen, near, spans, marks, kept, shared, window,
             after, floor,
         )?;
-        let recurs = parts.len() > sorted_from;
-        let merge = Merge::of_sorted(alloc, parts, sorted_from, window.from)?;
-        Ok(Agenda { merge, recurs })
+        let recurs = leads.len() > sorted_from;
+        self.merge.begin(alloc, leads, sorted_from, window.from)?;
+        self.recurs = recurs;
+        Ok(())
     }
 
     /// An agenda with nothing to come.
-    pub(crate) fn ended(alloc: Global) -> Result<Agenda<'a>, AllocError>
-        ensures none { IfOk result (λ agenda. ⟦<Agenda<'a> as Coming>⟧.coming agenda ≡ []) }
-        ensures sources { IfOk result (λ agenda. ⟦<Agenda<'a> as Coming>⟧.sources agenda ≡ []) }
+    pub(crate) fn none(alloc: Global) -> Agenda<'a>
+        ensures none { ⟦<Agenda<'a> as Coming>⟧.coming result ≡ [] }
+        ensures sources { ⟦<Agenda<'a> as Coming>⟧.sources result ≡ [] }
     {
-        let merge = Merge::new(alloc, Vec::new(alloc))?;
-        Ok(Agenda {
-            merge,
+        Agenda {
+            merge: Merge::none(alloc),
             recurs: false,
-        })
+        }
     }
 
     /// Whether a master that recurs was searched for it.
@@ -221,16 +230,20 @@ impl<'a> Feed<'a> for Agenda<'a> {
     }
 }
 
-/// The feed of the events that start once, if there are any to come.
-fn first_part<'a>(alloc: Global, singles: Singles<'a>) -> Result<Vec<Part<'a>>, AllocError>
-    ensures { IfOk result (λ parts. IsFirstPart singles.entry parts.items) }
+/// Puts the feed of the events that start once first, if there are any to come.
+fn push_first<'a>(
+    leads: &mut Vec<Lead<'a, Part<'a>>>,
+    singles: Singles<'a>,
+) -> Result<(), AllocError>
+    requires { leads.old.items ≡ [] }
+    ensures first { OnOk result (IsFirstPart singles.entry (map (λ l. l.feed) leads.new.items)) }
+    ensures fresh { OnOk result (AllByRecursion (λ l. IsFresh (part_near l.feed) l.head (part_coming l.feed)) leads.new.items) }
 {
-    let mut parts = Vec::new(alloc);
     if singles.is_empty() {
-        return Ok(parts);
+        return Ok(());
     }
-    parts.push(Part::Singles(singles))?;
-    Ok(parts)
+    leads.push(Lead::of(Part::Singles(singles)))?;
+    Ok(())
 }
 
 /// Whether no override replaces an occurrence, or it is that of an override.

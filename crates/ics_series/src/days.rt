@@ -42,6 +42,7 @@ use crate::agenda::Agenda;
 use crate::chosen::{chosen, overrides};
 use crate::kept::{add_kept, give_back};
 use crate::marks::add_places;
+use crate::part::Part;
 use crate::shared::places_for;
 use crate::span::spans;
 use crate::version::Version;
@@ -49,7 +50,7 @@ use ics_days::{
     NearPlaces, Span, bounds_in, date_at, first_shown, is_today, last_near, last_shown, near_day,
 };
 use ics_file::FileEvents;
-use ics_listing::{DayKey, Feed, Key, Occurrence, Window};
+use ics_listing::{DayKey, Feed, Key, Lead, Occurrence, Window};
 use ics_starts::{Mark, Replaced, Series, is_single};
 use ics_values::{Local, Moment};
 use ics_zone::{Bounds, Display};
@@ -249,12 +250,14 @@ impl<'a> Days<'a> {
             ⊎ IsPastAgenda (last_near window.now bounds) day (agenda_coming agenda) (agenda_sources agenda)) }
     {
         if last_near(window, bounds) < day {
-            return Agenda::ended(alloc);
+            return Ok(Agenda::none(alloc));
         }
         let near = near_day(display, window, bounds, day, false);
         places.reach(spans, &near)?;
-        Agenda::of(
+        let mut agenda: Agenda<'a> = Agenda::none(alloc);
+        agenda.search(
             alloc,
+            Vec::new(alloc),
             files,
             display,
             versions,
@@ -267,7 +270,8 @@ impl<'a> Days<'a> {
             near,
             key,
             None,
-        )
+        )?;
+        Ok(agenda)
     }
 
     /// The first of the list still to come, with the day that it stands under, which then has the rest
@@ -287,8 +291,8 @@ impl<'a> Days<'a> {
             if self.last <= self.today.day {
                 return Ok(None);
             }
-            self.end_day();
-            self.turn()?;
+            let room = self.end_day();
+            self.turn(room)?;
         }
     }
 
@@ -346,9 +350,9 @@ impl<'a> Days<'a> {
         Ok(None)
     }
 
-    /// Counts what was looked at for a day of which nothing more is to come, and drops its agenda, so that it
-    /// is not held while the next day's is made.
-    fn end_day(&mut self)
+    /// Counts what was looked at for a day of which nothing more is to come, and ends its agenda, so that nothing of it
+    /// is held while the next day's is made. The room of its leads is left.
+    fn end_day(&mut self) -> Vec<Lead<'a, Part<'a>>>
         requires more { self.old.today.day <ℤ self.old.last }
         requires none { agenda_coming self.old.today.agenda ≡ [] }
         ensures none { agenda_coming self.new.today.agenda ≡ [] }
@@ -359,11 +363,12 @@ impl<'a> Days<'a> {
         ensures dropped { agenda_looked self.new.today.agenda ≡ 0 }
         ensures risen { self.old.today.looked ≤ self.new.today.looked }
         ensures ahead { (list : List OnDay) → IsAhead self.old list → IsAhead self.new list }
+        ensures room { result.items ≡ [] }
     {
         let looked = self.today.looked.saturating_add(self.today.agenda.steps());
         self.today.looked = looked;
         let over = self.today.lasts <= begin_after(self.bounds, self.today.day);
-        let leads = self.today.agenda.end(self.alloc);
+        let mut leads = self.today.agenda.end(self.alloc);
         let places = &self.places;
         give_back(
             &mut self.kept,
@@ -371,16 +376,19 @@ impl<'a> Days<'a> {
             &places.near,
             &mut self.spans,
             &mut self.marks,
-            leads,
+            &mut leads,
             over,
         );
+        leads
     }
 
-    /// Goes on to the next day on which something can be. What was looked at for the day is counted.
-    fn turn(&mut self) -> Result<(), AllocError>
+    /// Goes on to the next day on which something can be. What was looked at for the day is counted. The room is that of leads, of which there
+    /// are none.
+    fn turn(&mut self, room: Vec<Lead<'a, Part<'a>>>) -> Result<(), AllocError>
         requires more { self.old.today.day <ℤ self.old.last }
         requires none { agenda_coming self.old.today.agenda ≡ [] }
         requires counted { agenda_looked self.old.today.agenda ≡ 0 }
+        requires room { room.items ≡ [] }
         ensures day { OnOk result (self.old.today.day <ℤ self.new.today.day × (self.new.today.day ≤ℤ self.new.last)) }
         ensures scope { scope_of self.new ≡ scope_of self.old }
         ensures last { self.new.last ≡ self.old.last }
@@ -399,8 +407,9 @@ impl<'a> Days<'a> {
         let near = near_day(self.display, &self.window, self.bounds, day, closely);
         self.places.reach(&self.spans, &near)?;
         let key = key_near(self.display, &self.window, self.bounds, day, &self.floor);
-        let agenda = Agenda::of(
+        self.today.agenda.search(
             self.alloc,
+            room,
             self.files,
             self.display,
             &self.versions,
@@ -414,10 +423,8 @@ impl<'a> Days<'a> {
             key,
             floor_of(&self.window),
         )?;
-        let lasts = none_given(key, agenda.recurs());
         self.today.day = day;
-        self.today.agenda = agenda;
-        self.today.lasts = lasts;
+        self.today.lasts = none_given(key, self.today.agenda.recurs());
         Ok(())
     }
 }

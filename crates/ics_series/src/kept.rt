@@ -1,5 +1,5 @@
 //! The series of masters that rest from one day to another, each at the place of its version.
-ghost use Rattle.std.specs.Prelude.{◌≡◌, true, List, Some};
+ghost use Rattle.std.specs.Prelude.{◌≡◌, [], true, List, Some};
 ghost use Rattle.std.specs.List.{AllByRecursion};
 ghost use Rattle.ics_file.specs.File.{FileSaid};
 ghost use Rattle.ics_listing.specs.FileClocks.{Clock};
@@ -71,8 +71,8 @@ fn put_at<'a>(kept: &mut Vec<Option<Box<Series<'a>>>>, placed: PlacedSeries<'a>)
     }
 }
 
-/// Keeps the series of a day that has ended, each at its place. Where nothing that was given lasts longer, the spans and the marks
-/// are moved on.
+/// Takes the leads of a day that has ended, and keeps their series, each at its place. Where nothing that was given lasts longer, the spans and
+/// the marks are moved on.
 #[tactic(auto, using(crate::proofs::OverLemmas::moved_none, crate::proofs::OverLemmas::stay_none))]
 pub(crate) fn give_back<'a>(
     kept: &mut Vec<Option<Box<Series<'a>>>>,
@@ -80,17 +80,18 @@ pub(crate) fn give_back<'a>(
     near: &[usize],
     spans: &mut Vec<Span>,
     marks: &mut Vec<Option<Mark>>,
-    leads: Vec<Lead<'a, Part<'a>>>,
+    leads: &mut Vec<Lead<'a, Part<'a>>>,
     over: bool,
 )
-    ensures kept { (files : List FileSaid) (display : Clock) → AllByRecursion (λ l. IsPartOf files display l.feed) leads.entry.items
+    ensures kept { (files : List FileSaid) (display : Clock) → AllByRecursion (λ l. IsPartOf files display l.feed) leads.old.items
         → AreKept files display kept.old.items → AreKept files display kept.new.items }
     ensures spans { AreMovedOff versions.entry.now near.entry.now
-        (λ s day. over ≡ true → AllByRecursion (λ l. IsOverPart s day l.feed) leads.entry.items) spans.old.items spans.new.items }
-    ensures marks { StayMarks versions.entry.now (λ files display. AllByRecursion (λ l. IsPartOf files display l.feed) leads.entry.items)
+        (λ s day. over ≡ true → AllByRecursion (λ l. IsOverPart s day l.feed) leads.old.items) spans.old.items spans.new.items }
+    ensures marks { StayMarks versions.entry.now (λ files display. AllByRecursion (λ l. IsPartOf files display l.feed) leads.old.items)
         marks.old.items marks.new.items }
+    ensures leads { leads.new.items ≡ [] }
 {
-    for lead in leads {
+    while let Some(lead) = leads.pop() {
         if let Some(placed) = lead.into_feed().end(versions, near, spans, marks, over) {
             put_at(kept, placed);
         }

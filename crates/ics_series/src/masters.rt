@@ -1,6 +1,6 @@
 //! The masters that recur, each of them as a feed.
 ghost use Rattle.std.specs.Prelude.{◌≡◌, ◌<◌, ◌≤◌, [], ◌∷◌, false, length, map, slice_get, true, IfOk, MatchOption, None, Some};
-ghost use Rattle.std.specs.List.{filter_map, flat_map};
+ghost use Rattle.std.specs.List.{filter_map, flat_map, AllByRecursion};
 ghost use Rattle.std.specs.List.Sorted.{IsPartitionedBy, IsPartitionPoint};
 ghost use Rattle.std.specs.Option.{option_map};
 ghost use Rattle.std.specs.Ordering.{on};
@@ -9,6 +9,7 @@ ghost use Rattle.ics_file.specs.File.{said_by};
 ghost use Rattle.ics_starts.specs.Clocks.{display_clock};
 ghost use Rattle.ics_listing.specs.After.{is_after};
 ghost use Rattle.ics_listing.specs.Entry.{entry_cmp, key_rank, Entry};
+ghost use Rattle.ics_listing.specs.Leads.{IsFresh};
 ghost use Rattle.ics_listing.specs.Listing.{IsIn, IsListing};
 ghost use Rattle.ics_listing.specs.Rising.{Rises};
 ghost use Rattle.ics_series.specs.Inner.Kept.{AreKept, IsPartOf, IsSeriesOf};
@@ -18,7 +19,7 @@ ghost use Rattle.ics_series.specs.Inner.Shared.{AreShared};
 ghost use Rattle.ics_starts.specs.RuleMarks.{IsBegun, IsMarkOf};
 ghost use Rattle.ics_series.specs.Inner.Masters.{AreFrom, HasLists, HasSources, IsBehind, IsOfVersion, IsSince, IsSourceOf, Recurs, named_by};
 ghost use Rattle.ics_days.specs.NearPlaces.{AreNear, AreSameBut};
-ghost use Rattle.ics_series.specs.AgendaParts.{part_coming, part_sources};
+ghost use Rattle.ics_series.specs.AgendaParts.{part_coming, part_near, part_sources};
 ghost use Rattle.ics_starts.specs.SeriesFeed.{series_left, series_of, series_sources, source_of, IsSameSeries};
 ghost use Rattle.ics_starts.specs.SeriesStarts.{IsSeriesMet};
 ghost use Rattle.ics_starts.specs.SingleEvents.{is_single};
@@ -39,7 +40,7 @@ use crate::version::Version;
 use ics_days::{Span, first_at};
 use ics_event::Event;
 use ics_file::FileEvents;
-use ics_listing::{Coming, Key, Window};
+use ics_listing::{Coming, Key, Lead, Window};
 use ics_starts::{FileZones, Mark, Replaced, Series, is_single};
 use ics_values::Moment;
 use ics_zone::Display;
@@ -53,7 +54,7 @@ use std::cmp::Ordering;
 /// meets the window, its span is moved on.
 pub(crate) fn push_series<'a>(
     alloc: Global,
-    parts: &mut Vec<Part<'a>>,
+    leads: &mut Vec<Lead<'a, Part<'a>>>,
     files: &'a [FileEvents],
     display: &'a Display,
     chosen: &[Version<'_>],
@@ -81,10 +82,12 @@ pub(crate) fn push_series<'a>(
     ensures shared { AreShared (map seen chosen.entry.now) shared.new.items }
     ensures lists { IfOk result (λ _. HasLists (map said_by files.entry.now) (display_clock display.entry.now) window
         (option_map (λ key. key_rank key.now) after.entry) (map seen chosen.entry.now)
-        (map part_coming parts.old.items) (map part_coming parts.new.items)) }
+        (map (λ l. part_coming l.feed) leads.old.items) (map (λ l. part_coming l.feed) leads.new.items)) }
     ensures sources { IfOk result (λ _. HasSources (map said_by files.entry.now) (display_clock display.entry.now) window
         (option_map (λ key. key_rank key.now) after.entry) (map seen chosen.entry.now)
-        (flat_map part_sources parts.old.items) (flat_map part_sources parts.new.items)) }
+        (flat_map (λ l. part_sources l.feed) leads.old.items) (flat_map (λ l. part_sources l.feed) leads.new.items)) }
+    ensures fresh { IfOk result (λ _. AllByRecursion (λ l. IsFresh (part_near l.feed) l.head (part_coming l.feed)) leads.old.items
+        → AllByRecursion (λ l. IsFresh (part_near l.feed) l.head (part_coming l.feed)) leads.new.items) }
 {
     for place in near {
         let place = *place;
@@ -107,7 +110,7 @@ pub(crate) fn push_series<'a>(
                 event,
                 series,
             };
-            parts.push(Part::Series(placed))?;
+            leads.push(Lead::of(Part::Series(placed)))?;
         }
     }
     Ok(())

@@ -1,7 +1,8 @@
-use Rattle.std.specs.Prelude.{◌≡◌, true, List}
+use Rattle.std.specs.Prelude.{◌≡◌, ℤ, length, true, List}
 use Rattle.std.specs.List.{AllByRecursion}
 use Rattle.ics_file.specs.File.{FileSaid}
 use Rattle.ics_listing.specs.FileClocks.{Clock}
+use Rattle.ics_series.specs.DaySteps.{Scope}
 use Rattle.ics_series.specs.Inner.Ended.{AreMovedOff, IsOverPart}
 use Rattle.ics_series.specs.Inner.Kept.{AreKept, IsPartOf}
 use Rattle.ics_series.specs.Inner.Marks.{StayMarks}
@@ -9,9 +10,17 @@ use Rattle.ics_series.proofs.kept.give_back.Given as goal
 
 abbrev pub invariant-loop-lead : goal.invariant-loop-lead
 invariant-loop-lead l = record {
-  kept : (files : List FileSaid) (display : Clock) → AllByRecursion (λ x. IsPartOf files display x.feed) l.yielded
+  kept : (files : List FileSaid) (display : Clock) → AllByRecursion (λ x. IsPartOf files display x.feed) l.initial.leads.items
       → AreKept files display l.initial.kept.items → AreKept files display l.kept.items;
-  spans : AreMovedOff l.versions l.near (λ s day. l.over ≡ true → AllByRecursion (λ x. IsOverPart s day x.feed) l.yielded)
+  spans : AreMovedOff l.versions l.near (λ s day. l.over ≡ true → AllByRecursion (λ x. IsOverPart s day x.feed) l.initial.leads.items)
       l.initial.spans.items l.spans.items;
-  marks : StayMarks l.versions (λ files display. AllByRecursion (λ x. IsPartOf files display x.feed) l.yielded) l.initial.marks.items l.marks.items;
+  marks : StayMarks l.versions (λ files display. AllByRecursion (λ x. IsPartOf files display x.feed) l.initial.leads.items)
+      l.initial.marks.items l.marks.items;
+  parts : (files : List FileSaid) (display : Clock) → AllByRecursion (λ x. IsPartOf files display x.feed) l.initial.leads.items
+      → AllByRecursion (λ x. IsPartOf files display x.feed) l.leads.items;
+  over : (s : Scope) (day : ℤ) → AllByRecursion (λ x. IsOverPart s day x.feed) l.initial.leads.items
+      → AllByRecursion (λ x. IsOverPart s day x.feed) l.leads.items;
 }
+
+abbrev pub decreases-loop-lead : goal.decreases-loop-lead
+decreases-loop-lead l = length l.leads.items

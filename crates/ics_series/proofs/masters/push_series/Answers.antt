@@ -2,7 +2,7 @@ use Rattle.std.proofs.lemmas.Grind.{common_steps}
 use Rattle.std.proofs.Common.{◌≡◌, ◌+◌, ◌<◌, List, [], ◌∷◌, ◌++◌, length, take, Vec, Global, Option, Some, map, get_or, option_map, refl, sym, subst}
 use Rattle.std.proofs.Common.{ap, ◌∙◌, arith, append-nil, rules, to_z, of_z, w64}
 use Rattle.std.specs.Global.{Box}
-use Rattle.std.specs.List.{flat_map}
+use Rattle.std.specs.List.{flat_map, AllByRecursion}
 use Rattle.std.proofs.lemmas.Int.{ints}
 use Rattle.std.proofs.lemmas.List.{map-append}
 use Rattle.std.proofs.lemmas.List.Concat.{flat_map-append}
@@ -11,10 +11,9 @@ use Rattle.ics_file.specs.File.{said_by}
 use Rattle.ics_starts.specs.Clocks.{display_clock}
 use Rattle.ics_series.specs.Versions.{seen}
 use Rattle.ics_starts.specs.declared.mark.Mark.{Mark}
-use Rattle.ics_series.specs.declared.part.Part.{Part}
 use Rattle.ics_starts.specs.declared.series.Series.{Series}
 use Rattle.ics_days.specs.declared.span.Span.{Span}
-use Rattle.ics_series.specs.AgendaParts.{part_coming, part_sources}
+use Rattle.ics_series.specs.AgendaParts.{part_coming, part_near, part_sources}
 use Rattle.ics_listing.specs.Entry.{key_rank}
 use Rattle.ics_starts.specs.FileZones.{clocks_in}
 use Rattle.ics_series.specs.Inner.Marks.{AreMarks, IsPut}
@@ -24,6 +23,8 @@ use Rattle.ics_days.specs.NearPlaces.{AreSameBut}
 use Rattle.ics_days.specs.Spans.{first_at, is_out}
 use Rattle.ics_series.specs.Inner.Spans.{AreMovedOn, IsMovedOn}
 use Rattle.ics_starts.specs.SeriesFeed.{series_left, series_of, series_sources}
+use Rattle.ics_listing.specs.Leads.{IsFresh}
+use Rattle.ics_listing.proofs.LeadLemmas.{all-pushed}
 use Rattle.ics_listing.proofs.ListingLemmas.{get-in}
 use Rattle.ics_series.proofs.GapLemmas.{lists-gap, looked-all, looked-none, looked-one, moved-others, place-gap, place-low, place-within}
 use Rattle.ics_series.proofs.GapLemmas.{sources-gap, IsLookedTo}
@@ -130,10 +131,10 @@ invariant_of-placed c =
 to-here : (c : At-loop-place) → c.loop-place.place-index < length c.args.near.now
     → HasLists (map said_by c.args.files.now) (display_clock c.args.display.now) c.args.window (option_map (λ key. key_rank key.now) c.args.after)
     (map seen (take (get_or c.args.near.now c.loop-place.place-index 0) c.args.chosen.now))
-    (map part_coming c.args.parts.now.items) (map part_coming c.loop-place.parts.items)
+    (map (λ l. part_coming l.feed) c.args.leads.now.items) (map (λ l. part_coming l.feed) c.loop-place.leads.items)
     × HasSources (map said_by c.args.files.now) (display_clock c.args.display.now) c.args.window (option_map (λ key. key_rank key.now) c.args.after)
     (map seen (take (get_or c.args.near.now c.loop-place.place-index 0) c.args.chosen.now))
-    (flat_map part_sources c.args.parts.now.items) (flat_map part_sources c.loop-place.parts.items)
+    (flat_map (λ l. part_sources l.feed) c.args.leads.now.items) (flat_map (λ l. part_sources l.feed) c.loop-place.leads.items)
 to-here c test =
     let near = c.args.near.now in
     let i = c.loop-place.place-index in
@@ -168,9 +169,10 @@ loop-place-init c = record {
   looked = (
     0,
     looked-none c.args.near.now (length c.args.chosen.now) c.requires.near.rises,
-    record { more = []; are = record { each = tt; every = λ l m. absurd m }; behind = sym (append-nil (map part_coming c.args.parts.now.items)) },
-    record { more = []; each = tt; rises = tt; behind = sym (append-nil (flat_map part_sources c.args.parts.now.items)) },
+    record { more = []; are = record { each = tt; every = λ l m. absurd m }; behind = sym (append-nil (map (λ l. part_coming l.feed) c.args.leads.now.items)) },
+    record { more = []; each = tt; rises = tt; behind = sym (append-nil (flat_map (λ l. part_sources l.feed) c.args.leads.now.items)) },
   );
+  fresh = λ fresh. fresh;
   spans = record { size = refl; still = λ n later are. are };
   others = λ j away. refl;
   marks = c.requires.marks;
@@ -191,6 +193,7 @@ loop-place-preserved c =
     elim c.match-branch-2.branch [
       | in-Some+in_ok-move_on+in_ok-push w ↦
           let value = w.deref_mut.ensures.value in
+          let leads = (λ i. (w.leads-is i).items) ∙ w.in_ok-push.ensures.items in
           let moved = rw w.deref_mut.ensures.value at w.move_on.ensures.spans in
           let marked = rw w.deref-in-Some.ensures at w.mark.ensures in
           let m = MatchOption-at_some _ _ w.in-Some.series w.in-Some.is (c.in_ok-series.ensures.sources v there) in
@@ -200,16 +203,20 @@ loop-place-preserved c =
               on,
               versions-more vs k there here.0
                   (MatchOption-at_some _ _ w.in-Some.series w.in-Some.is (c.in_ok-series.ensures.series v there))
-                  (ap (λ (p : Vec Part Global). map part_coming p.items) w.parts-is ∙ (ap (map part_coming) w.in_ok-push.ensures.items
-                  ∙ (map-append part_coming c.loop-place.parts.items _
-                  ∙ ap (λ xs. map part_coming c.loop-place.parts.items ++ xs ∷ [])
-                  (w.move_on.ensures.coming ∙ ap (λ (s : Series). series_of s (series_left s)) value)))),
+                  (ap (map (λ l. part_coming l.feed)) leads
+                  ∙ (map-append (λ l. part_coming l.feed) c.loop-place.leads.items _
+                  ∙ ap (λ xs. map (λ l. part_coming l.feed) c.loop-place.leads.items ++ xs ∷ [])
+                  (ap part_coming w.of.ensures.feed ∙ (w.move_on.ensures.coming ∙ ap (λ (s : Series). series_of s (series_left s)) value)))),
               sources-more c.requires.chosen k there here.1 m.1
-                  (ap (λ (p : Vec Part Global). flat_map part_sources p.items) w.parts-is ∙ (ap (flat_map part_sources) (w.in_ok-push.ensures.items)
-                  ∙ (flat_map-append part_sources c.loop-place.parts.items _
-                  ∙ ap (λ xs. flat_map part_sources c.loop-place.parts.items ++ xs) (append-nil (series_sources w.move_on.new.series)
+                  (ap (flat_map (λ l. part_sources l.feed)) leads
+                  ∙ (flat_map-append (λ l. part_sources l.feed) c.loop-place.leads.items _
+                  ∙ ap (λ xs. flat_map (λ l. part_sources l.feed) c.loop-place.leads.items ++ xs) (ap (λ p. part_sources p ++ []) w.of.ensures.feed
+                  ∙ (append-nil (series_sources w.move_on.new.series)
                   ∙ (same-sources w.deref_mut.result.now w.move_on.new.series w.move_on.ensures.same ∙ (ap series_sources value ∙ m.2)))))),
             );
+            fresh = λ fresh. subst (AllByRecursion (λ l. IsFresh (part_near l.feed) l.head (part_coming l.feed))) (sym leads)
+                (all-pushed (λ l. IsFresh (part_near l.feed) l.head (part_coming l.feed)) c.loop-place.leads.items _ (c.loop-place.invariant.fresh fresh)
+                w.of.ensures.fresh);
             spans = subst AreMoved (sym (ap (λ (p : Vec Span Global). p.items) w.spans-is))
                 (moved-on (goal.at.loop-place-preserved c).In_ok-series w.in-Some.series w.in-Some.is moved);
             others = subst (AreSameBut c.args.near.now c.args.spans.now.items) (sym (ap (λ (p : Vec Span Global). p.items) w.spans-is))
@@ -225,9 +232,11 @@ loop-place-preserved c =
               k + 1,
               on,
               versions-skip vs k there here.0 (MatchOption-at_none _ _ w.in_default.is (c.in_ok-series.ensures.series v there))
-                  (ap (λ (p : Vec Part Global). map part_coming p.items) w.parts-is),
-              sources-skip c.requires.chosen k there here.1 (ap (λ (p : Vec Part Global). flat_map part_sources p.items) w.parts-is),
+                  (λ i. map (λ l. part_coming l.feed) (w.leads-is i).items),
+              sources-skip c.requires.chosen k there here.1 (λ i. flat_map (λ l. part_sources l.feed) (w.leads-is i).items),
             );
+            fresh = λ fresh. subst (AllByRecursion (λ l. IsFresh (part_near l.feed) l.head (part_coming l.feed)))
+                (sym (λ i. (w.leads-is i).items)) (c.loop-place.invariant.fresh fresh);
             spans = subst AreMoved (sym (ap (λ (p : Vec Span Global). p.items) w.spans-is)) c.loop-place.invariant.spans;
             others = subst (AreSameBut c.args.near.now c.args.spans.now.items) (sym (ap (λ (p : Vec Span Global). p.items) w.spans-is))
                 c.loop-place.invariant.others;
@@ -257,6 +266,7 @@ loop-place-preserved-then-is_out c =
         versions-none vs k there here.0 none refl,
         sources-skip c.requires.chosen k there here.1 refl,
       );
+      fresh = c.loop-place.invariant.fresh;
       spans = c.loop-place.invariant.spans;
       others = c.loop-place.invariant.others;
       marks = c.loop-place.invariant.marks;
@@ -285,6 +295,7 @@ loop-place-preserved-then-is_single c =
             (not-single {u = v} {v = v} refl c.event-event.ensures.event (sym c.is_single.ensures ∙ c.if-is_single.true)) refl,
         sources-skip c.requires.chosen k there here.1 refl,
       );
+      fresh = c.loop-place.invariant.fresh;
       spans = c.loop-place.invariant.spans;
       others = c.loop-place.invariant.others;
       marks = c.loop-place.invariant.marks;
@@ -309,6 +320,7 @@ returns c =
       sources = sources-all c.requires.chosen (length vs) (omega arith)
           (sources-gap files display c.args.window vs spans c.requires.spans near c.requires.near looked.0 (length vs) looked.1.within (omega arith)
           (λ j a b m. looked-all near i looked.0 c.loop-place-test.false looked.1 j a m) after c.requires.chosen looked.3);
+      fresh = c.loop-place.invariant.fresh;
       spans = c.loop-place.invariant.spans;
       others = c.loop-place.invariant.others;
       marks = c.loop-place.invariant.marks;

@@ -1,15 +1,16 @@
 use Rattle.std.proofs.Common.{ℕ, length, map, take, option_map}
-use Rattle.std.specs.List.{flat_map}
+use Rattle.std.specs.List.{flat_map, AllByRecursion}
 use Rattle.ics_file.specs.File.{said_by}
 use Rattle.ics_starts.specs.Clocks.{display_clock}
 use Rattle.ics_listing.specs.Entry.{key_rank}
+use Rattle.ics_listing.specs.Leads.{IsFresh}
 use Rattle.ics_series.specs.Inner.Kept.{AreKept}
 use Rattle.ics_series.specs.Inner.Marks.{AreMarks}
 use Rattle.ics_series.specs.Inner.Masters.{HasLists, HasSources}
 use Rattle.ics_series.specs.Inner.Shared.{AreShared}
 use Rattle.ics_days.specs.NearPlaces.{AreSameBut}
 use Rattle.ics_series.specs.Inner.Spans.{AreMovedOn}
-use Rattle.ics_series.specs.AgendaParts.{part_coming, part_sources}
+use Rattle.ics_series.specs.AgendaParts.{part_coming, part_near, part_sources}
 use Rattle.ics_series.specs.Versions.{seen}
 use Rattle.ics_series.proofs.GapLemmas.{IsLookedTo}
 use Rattle.ics_series.proofs.masters.push_series.Given as goal
@@ -20,9 +21,11 @@ invariant-loop-place l = record {
   looked :
       (next : ℕ) × IsLookedTo l.near (length l.chosen) l.place-index next
       × HasLists (map said_by l.files) (display_clock l.display) l.window (option_map (λ key. key_rank key.now) l.after) (map seen (take next l.chosen))
-      (map part_coming l.initial.parts.items) (map part_coming l.parts.items)
+      (map (λ x. part_coming x.feed) l.initial.leads.items) (map (λ x. part_coming x.feed) l.leads.items)
       × HasSources (map said_by l.files) (display_clock l.display) l.window (option_map (λ key. key_rank key.now) l.after) (map seen (take next l.chosen))
-      (flat_map part_sources l.initial.parts.items) (flat_map part_sources l.parts.items);
+      (flat_map (λ x. part_sources x.feed) l.initial.leads.items) (flat_map (λ x. part_sources x.feed) l.leads.items);
+  fresh : AllByRecursion (λ x. IsFresh (part_near x.feed) x.head (part_coming x.feed)) l.initial.leads.items
+      → AllByRecursion (λ x. IsFresh (part_near x.feed) x.head (part_coming x.feed)) l.leads.items;
   spans : AreMovedOn (map said_by l.files) (display_clock l.display) l.window l.floor (map seen l.chosen) l.initial.spans.items l.spans.items;
   others : AreSameBut l.near l.initial.spans.items l.spans.items;
   marks : AreMarks (map said_by l.files) (map seen l.chosen) l.marks.items;

@@ -1,5 +1,4 @@
 use Rattle.std.proofs.Common.{◌∙◌, ap, arith, filter, length, map, option_map, sym, subst, None}
-use Rattle.std.proofs.lemmas.Result.{IfOk-weaker}
 use Rattle.ics_file.specs.File.{said_by}
 use Rattle.ics_starts.specs.Clocks.{display_clock}
 use Rattle.ics_listing.specs.Entry.{key_rank}
@@ -15,20 +14,20 @@ use Rattle.ics_series.proofs.SpanLemmas.{no-spans}
 use Rattle.ics_series.proofs.WholeLemmas.{keys, whole}
 use Rattle.ics_series.proofs.agenda.Agenda.new.Goals as goal
 
-pub of-requires-clause-chosen : goal.of-requires-clause-chosen
-of-requires-clause-chosen c = rw c.deref-2.ensures.value c.in_ok-chosen.ensures.chosen
+pub search-requires-clause-chosen : goal.search-requires-clause-chosen
+search-requires-clause-chosen c = rw c.deref-2.ensures.value c.in_ok-chosen.ensures.chosen
 
-pub of-requires-clause-spans : goal.of-requires-clause-spans
-of-requires-clause-spans c =
+pub search-requires-clause-spans : goal.search-requires-clause-spans
+search-requires-clause-spans c =
     no-spans (map said_by c.args.files.now) (display_clock c.args.display.now) c.args.window None (map seen c.deref-2.result.now) c.new-spans.ensures.items
 
-pub of-requires-clause-overrides : goal.of-requires-clause-overrides
-of-requires-clause-overrides c =
+pub search-requires-clause-overrides : goal.search-requires-clause-overrides
+search-requires-clause-overrides c =
     ap (map seen) c.deref-3.ensures.value
     ∙ (c.in_ok-overrides.ensures ∙ ap (λ vs. filter is_override (map seen vs)) (c.deref.ensures.value ∙ sym c.deref-2.ensures.value))
 
-pub of-requires-clause-near : goal.of-requires-clause-near
-of-requires-clause-near c =
+pub search-requires-clause-near : goal.search-requires-clause-near
+search-requires-clause-near c =
     let count = c.len.ensures ∙ sym c.deref-2.ensures.len in
     subst (AreNear c.new-spans.result.items c.args.window (length c.deref-2.result.now)) (sym c.deref-4.ensures.value)
     (record {
@@ -37,29 +36,28 @@ of-requires-clause-near c =
       out = λ k within away. absurd (away (c.in_ok-near.ensures.all k (omega (arith, within, count))));
     })
 
-pub of-requires-clause-marks : goal.of-requires-clause-marks
-of-requires-clause-marks c =
+pub search-requires-clause-marks : goal.search-requires-clause-marks
+search-requires-clause-marks c =
     subst (AreMarks (map said_by c.args.files.now) (map seen c.deref-2.result.now)) (sym c.new-marks.ensures.items)
     (no-marks (map said_by c.args.files.now) (map seen c.deref-2.result.now))
 
-pub of-requires-clause-kept : goal.of-requires-clause-kept
-of-requires-clause-kept c =
+pub search-requires-clause-kept : goal.search-requires-clause-kept
+search-requires-clause-kept c =
     subst (AreKept (map said_by c.args.files.now) (display_clock c.args.display.now)) (sym c.new-kept.ensures.items) tt
 
-pub of-requires-clause-shared : goal.of-requires-clause-shared
-of-requires-clause-shared c =
+pub search-requires-clause-shared : goal.search-requires-clause-shared
+search-requires-clause-shared c =
     subst (AreShared (map seen c.deref-2.result.now)) (sym c.new-shared.ensures.items) (shared-none (map seen c.deref-2.result.now))
 
 pub returns : goal.returns
 returns c = record {
-  listing = c.of.ensures.listing;
-  behind = IfOk-weaker c.of.result _ _ (λ agenda listing.
+  listing = c.in_ok-search.ensures.listing;
+  behind =
       behind-key (map said_by c.args.files.now) (display_clock c.args.display.now) c.args.window (option_map (λ key. key_rank key.now) c.args.after)
-      (whole c.args.files.now c.args.display.now c.in_ok-chosen.ensures.chosen c.in_ok-chosen.ensures.read c.args.window) listing)
-      c.of.ensures.listing;
-  keys = IfOk-weaker c.of.result _ _ (λ agenda listing. keys c.args.files.now c.args.display.now c.in_ok-chosen.ensures.read) c.of.ensures.listing;
-  sources = c.of.ensures.sources;
+      (whole c.args.files.now c.args.display.now c.in_ok-chosen.ensures.chosen c.in_ok-chosen.ensures.read c.args.window) c.in_ok-search.ensures.listing;
+  keys = keys c.args.files.now c.args.display.now c.in_ok-chosen.ensures.read;
+  sources = c.in_ok-search.ensures.sources;
 }
 
-pub of-requires-clause-floor : goal.of-requires-clause-floor
-of-requires-clause-floor c = λ o after. tt
+pub search-requires-clause-floor : goal.search-requires-clause-floor
+search-requires-clause-floor c = λ o after. tt

@@ -4,7 +4,6 @@ use Rattle.std.proofs.lemmas.List.{length-map}
 use Rattle.ics_file.specs.File.{said_by}
 use Rattle.ics_starts.specs.Clocks.{display_clock}
 use Rattle.ics_series.specs.Versions.{seen}
-use Rattle.ics_listing.proofs.Cases.{if-both}
 use Rattle.ics_days.specs.NearPlaces.{AreNear}
 use Rattle.ics_series.specs.Inner.Spans.{floor_of}
 use Rattle.ics_days.proofs.NearDayLemmas.{bounds-offsets}
@@ -16,28 +15,27 @@ pub returns-clause-agenda : goal.returns-clause-agenda
 returns-clause-agenda c =
     let fits : to_z w32 (of_z w32 c.args.day) ≡ c.args.day = search rules in
     let near = rw fits at c.near_day-near.ensures in
-    if-both c.of.result _ _ (λ agenda listing are. inl (record { window = c.near_day-near.result; near = near; listing = listing; are = are }))
-    c.of.ensures.listing c.of.ensures.sources
+    inl (record { window = c.near_day-near.result; near = near; listing = c.in_ok-search.ensures.listing; are = c.in_ok-search.ensures.sources })
 
-pub of-requires-clause-spans : goal.of-requires-clause-spans
-of-requires-clause-spans c =
+pub search-requires-clause-spans : goal.search-requires-clause-spans
+search-requires-clause-spans c =
     are-spans (map said_by c.args.files.now) (display_clock c.args.display.now) c.args.window.now c.near_day-near.result
     (omega (arith, ints, c.near_day-near.ensures.to, int_min_is)) None (map seen c.args.versions.now) c.requires.spans
 
-pub of-requires-clause-floor : goal.of-requires-clause-floor
-of-requires-clause-floor c = λ o after. tt
+pub search-requires-clause-floor : goal.search-requires-clause-floor
+search-requires-clause-floor c = λ o after. tt
 
 pub returns-clause-spans : goal.returns-clause-spans
 returns-clause-spans c = λ x n later h.
     let fits : to_z w32 (of_z w32 c.args.day) ≡ c.args.day = search rules in
     let near = rw fits at c.near_day-near.ensures in
     spans-floor (map said_by c.args.files.now) (display_clock c.args.display.now) n (floor_of c.args.window.now) (map seen c.args.versions.now) _
-    (c.of.ensures.spans.still n (near-later near h (omega (arith, ints, later)))
+    (c.search.ensures.spans.still n (near-later near h (omega (arith, ints, later)))
     (are-spans (map said_by c.args.files.now) (display_clock c.args.display.now) c.args.window.now n (omega (arith, ints, h.to, int_min_is)) None
     (map seen c.args.versions.now) c.requires.spans))
 
-pub of-requires-clause-near : goal.of-requires-clause-near
-of-requires-clause-near c =
+pub search-requires-clause-near : goal.search-requires-clause-near
+search-requires-clause-near c =
     let spans = c.args.spans.now.items in
     let near = c.near_day-near.result in
     let size = ap length c.requires.spans ∙ (length-map _ _ ∙ length-map c.args.versions.now seen) in
@@ -53,8 +51,8 @@ returns-clause-places c =
     let fits : to_z w32 (of_z w32 c.args.day) ≡ c.args.day = search rules in
     let near = rw fits at c.near_day-near.ensures in
     let has = rw c.deref.ensures.value at c.reach.ensures.has in
-    let others = rw c.deref-2.ensures.value at c.of.ensures.others in
-    places-moved c.reach.new.self c.args.spans.now.items c.of.new.spans.items others
+    let others = rw c.deref-2.ensures.value at c.search.ensures.others in
+    places-moved c.reach.new.self c.args.spans.now.items c.search.new.spans.items others
     (λ clock x n later h. has n (near-from near h (omega (arith, ints, later))) (c.requires.places n))
 
 pub returns-in_err-reach-clause-places : goal.returns-in_err-reach-clause-places
@@ -73,7 +71,7 @@ pub returns-then-last_near-day-clause-places : goal.returns-then-last_near-day-c
 returns-then-last_near-day-clause-places c = λ clock x n later h. c.requires.places n
 
 pub returns-clause-size : goal.returns-clause-size
-returns-clause-size c = c.of.ensures.spans.size
+returns-clause-size c = c.search.ensures.spans.size
 
 pub returns-then-last_near-day-clause-spans : goal.returns-then-last_near-day-clause-spans
 returns-then-last_near-day-clause-spans c = λ x n later h.
@@ -82,3 +80,21 @@ returns-then-last_near-day-clause-spans c = λ x n later h.
 
 pub last_near-requires : goal.last_near-requires
 last_near-requires c = bounds-offsets (display_clock c.args.display.now) c.args.window.now c.args.bounds c.requires.bounded
+
+pub returns-in_err-search-clause-spans : goal.returns-in_err-search-clause-spans
+returns-in_err-search-clause-spans c = λ x n later h.
+    let fits : to_z w32 (of_z w32 c.args.day) ≡ c.args.day = search rules in
+    let near = rw fits at c.near_day-near.ensures in
+    spans-floor (map said_by c.args.files.now) (display_clock c.args.display.now) n (floor_of c.args.window.now) (map seen c.args.versions.now) _
+    (c.search.ensures.spans.still n (near-later near h (omega (arith, ints, later)))
+    (are-spans (map said_by c.args.files.now) (display_clock c.args.display.now) c.args.window.now n (omega (arith, ints, h.to, int_min_is)) None
+    (map seen c.args.versions.now) c.requires.spans))
+
+pub returns-in_err-search-clause-places : goal.returns-in_err-search-clause-places
+returns-in_err-search-clause-places c =
+    let fits : to_z w32 (of_z w32 c.args.day) ≡ c.args.day = search rules in
+    let near = rw fits at c.near_day-near.ensures in
+    let has = rw c.deref.ensures.value at c.reach.ensures.has in
+    let others = rw c.deref-2.ensures.value at c.search.ensures.others in
+    places-moved c.reach.new.self c.args.spans.now.items c.search.new.spans.items others
+    (λ clock x n later h. has n (near-from near h (omega (arith, ints, later))) (c.requires.places n))

@@ -15,10 +15,10 @@ nearer day next last l m = omega (arith, ints, l, m)
 pub loop-occurrence-smaller : goal.loop-occurrence-smaller
 loop-occurrence-smaller c =
     let turned = c.in_ok-turn.ensures.day in
-    let same = c.turn.ensures.last ∙ (c.end_day.ensures.last ∙ c.next_today.ensures.last) in
+    let same = c.turn.ensures.last ∙ (c.end_day-room.ensures.last ∙ c.next_today.ensures.last) in
     subst (λ l. unsigned_abs (l -ℤ c.turn.new.self.today.day) < unsigned_abs (c.loop-occurrence.self.last -ℤ c.loop-occurrence.self.today.day)) (sym same)
     (nearer c.loop-occurrence.self.today.day c.turn.new.self.today.day c.loop-occurrence.self.last
-    (omega (arith, ints, turned.0, c.end_day.ensures.day, c.next_today.ensures.day)) (omega (arith, ints, turned.1, same)))
+    (omega (arith, ints, turned.0, c.end_day-room.ensures.day, c.next_today.ensures.day)) (omega (arith, ints, turned.1, same)))
 
 pub returns-in-Some-clause-ok : goal.returns-in-Some-clause-ok
 returns-in-Some-clause-ok c = λ list a.
@@ -42,15 +42,15 @@ returns-in_err-turn-clause-err c = λ list a.
     let none : c.in_ok-occurrence.field-0 ≡ None = search rules in
     let gives = rw none at (c.in_ok-occurrence.ensures.ok list (c.loop-occurrence.invariant.ahead list a)) in
     on-err (IsAhead c.turn.new.self list) c.from_residual-in_err-turn.result
-    (c.turn.ensures.ahead list (c.end_day.ensures.ahead list (subst (λ l. IsAhead c.next_today.new.self l) (sym gives.2) gives.1)))
+    (c.turn.ensures.ahead list (c.end_day-room.ensures.ahead list (subst (λ l. IsAhead c.next_today.new.self l) (sym gives.2) gives.1)))
 
 pub loop-occurrence-preserved : goal.loop-occurrence-preserved
 loop-occurrence-preserved c = record {
-  scope = c.turn.ensures.scope ∙ (c.end_day.ensures.scope ∙ (c.next_today.ensures.scope ∙ c.loop-occurrence.invariant.scope));
-  last = c.turn.ensures.last ∙ (c.end_day.ensures.last ∙ (c.next_today.ensures.last ∙ c.loop-occurrence.invariant.last));
-  looked = omega (arith, c.turn.ensures.looked, c.end_day.ensures.risen, c.next_today.ensures.looked, c.loop-occurrence.invariant.looked);
+  scope = c.turn.ensures.scope ∙ (c.end_day-room.ensures.scope ∙ (c.next_today.ensures.scope ∙ c.loop-occurrence.invariant.scope));
+  last = c.turn.ensures.last ∙ (c.end_day-room.ensures.last ∙ (c.next_today.ensures.last ∙ c.loop-occurrence.invariant.last));
+  looked = omega (arith, c.turn.ensures.looked, c.end_day-room.ensures.risen, c.next_today.ensures.looked, c.loop-occurrence.invariant.looked);
   ahead = λ list a.
       let none : c.in_ok-occurrence.field-0 ≡ None = search rules in
       let gives = rw none at (c.in_ok-occurrence.ensures.ok list (c.loop-occurrence.invariant.ahead list a)) in
-      c.turn.ensures.ahead list (c.end_day.ensures.ahead list (subst (λ l. IsAhead c.next_today.new.self l) (sym gives.2) gives.1));
+      c.turn.ensures.ahead list (c.end_day-room.ensures.ahead list (subst (λ l. IsAhead c.next_today.new.self l) (sym gives.2) gives.1));
 }

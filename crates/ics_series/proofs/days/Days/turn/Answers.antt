@@ -1,4 +1,4 @@
-use Rattle.std.proofs.Common.{◌≡◌, ◌∙◌, ◌<ℤ◌, map, option_map, true, subst, arith, rules, to_z, of_z, w32, w64}
+use Rattle.std.proofs.Common.{◌≡◌, ◌∙◌, ◌<ℤ◌, map, option_map, true, subst, sym, arith, rules, to_z, of_z, w32, w64}
 use Rattle.ics_days.specs.ShownDays.{is_on}
 use Rattle.ics_listing.specs.Entry.{key_rank}
 use Rattle.std.proofs.Math.Bridge.{le_prop}
@@ -7,7 +7,10 @@ use Rattle.std.proofs.lemmas.Int.{ints}
 use Rattle.ics_file.specs.File.{said_by}
 use Rattle.ics_series.specs.Ahead.{agenda_coming}
 use Rattle.ics_starts.specs.Clocks.{display_clock}
-use Rattle.ics_series.specs.DaySteps.{agenda_sources, scope_in}
+use Rattle.ics_listing.specs.Merges.{merge_all, merge_coming}
+use Rattle.ics_series.specs.AgendaParts.{part_coming, part_sources}
+use Rattle.ics_series.specs.DaySteps.{agenda_sources, scope_in, AreDayMasters, IsLookedBefore}
+use Rattle.ics_series.specs.Inner.Ended.{HaveEnded}
 use Rattle.ics_days.specs.NearDays.{first_near}
 use Rattle.ics_days.proofs.NearDayLemmas.{bounds-offsets, day-fits}
 use Rattle.ics_series.specs.Sources.{recurring}
@@ -48,11 +51,11 @@ next_day-day-requires-clause-places c =
     let fits : to_z w32 (of_z w32 c.args.self.now.today.day) ≡ c.args.self.now.today.day = search rules in
     rw (fits, c.deref.ensures.value) c.args.self.now.reached
 
-pub of-requires-clause-overrides : goal.of-requires-clause-overrides
-of-requires-clause-overrides c = rw (c.deref-5.ensures.value, c.deref-4.ensures.value) c.args.self.now.overriding
+pub search-requires-clause-overrides : goal.search-requires-clause-overrides
+search-requires-clause-overrides c = rw (c.deref-5.ensures.value, c.deref-4.ensures.value) c.args.self.now.overriding
 
-pub of-requires-clause-near : goal.of-requires-clause-near
-of-requires-clause-near c =
+pub search-requires-clause-near : goal.search-requires-clause-near
+search-requires-clause-near c =
     let self = c.args.self.now in
     let near = c.near_day-near.result in
     let reached = rw c.deref-3.ensures.value at c.in_ok-reach.ensures.reached in
@@ -61,19 +64,19 @@ of-requires-clause-near c =
     (reached (self.reached (display_clock self.display.now) (to_z w32 (of_z w32 c.next_day-day.result)) near
     (omega (arith, ints, c.next_day-day.type_inv, c.next_day-day.ensures.later)) c.near_day-near.ensures)))
 
-pub of-requires-clause-chosen : goal.of-requires-clause-chosen
-of-requires-clause-chosen c =
+pub search-requires-clause-chosen : goal.search-requires-clause-chosen
+search-requires-clause-chosen c =
     let self = c.args.self.now in
     rw c.deref-4.ensures.value (chosen-back (map said_by self.files.now) (display_clock self.display.now) self.versions.items self.chosen)
 
-pub of-requires-clause-shared : goal.of-requires-clause-shared
-of-requires-clause-shared c = rw c.deref-4.ensures.value c.args.self.now.sharing
+pub search-requires-clause-shared : goal.search-requires-clause-shared
+search-requires-clause-shared c = rw c.deref-4.ensures.value c.args.self.now.sharing
 
-pub of-requires-clause-floor : goal.of-requires-clause-floor
-of-requires-clause-floor c = rw (← c.floor_of.ensures) at c.key_near-key.ensures.floor
+pub search-requires-clause-floor : goal.search-requires-clause-floor
+search-requires-clause-floor c = rw (← c.floor_of.ensures) at c.key_near-key.ensures.floor
 
-pub of-requires-clause-spans : goal.of-requires-clause-spans
-of-requires-clause-spans c =
+pub search-requires-clause-spans : goal.search-requires-clause-spans
+search-requires-clause-spans c =
     let self = c.args.self.now in
     rw (c.deref-4.ensures.value, c.floor_of.ensures)
     (self.spanned (to_z w32 (of_z w32 c.next_day-day.result)) c.near_day-near.result
@@ -121,7 +124,9 @@ invariant_of-self-in-Break-branch-2 c =
     let self = c.args.self.now in
     let files = map said_by self.files.now in
     let display = display_clock self.display.now in
-    let moved = rw (c.deref-4.ensures.value, c.floor_of.ensures) at c.of.ensures.spans in
+    let scope = scope_in files display self.bounds self.window self.after in
+    let same-merge = sym c.in_err-search.ensures.err in
+    let moved = rw (c.deref-4.ensures.value, c.floor_of.ensures) at c.search.ensures.spans in
     let same : to_z w32 (of_z w32 c.next_day-day.result) ≡ c.next_day-day.result = omega (arith, ints, c.next_day-day.type_inv) in
     let fits : to_z w32 (of_z w32 c.args.self.now.today.day) ≡ c.args.self.now.today.day = search rules in
     let none = rw (fits, ← same, c.deref.ensures.value) at c.next_day-day.ensures.none in
@@ -129,25 +134,25 @@ invariant_of-self-in-Break-branch-2 c =
       chosen = self.chosen;
       overriding = self.overriding;
       counted = c.reach.ensures.count ∙ self.counted;
-      reached = places-moved c.reach.new.self self.spans.items c.of.new.spans.items (rw c.deref-6.ensures.value at c.of.ensures.others)
+      reached = places-moved c.reach.new.self self.spans.items c.search.new.spans.items (rw c.deref-6.ensures.value at c.search.ensures.others)
           (places-same self.places c.reach.new.self self.spans.items c.near_day-near.ensures (rw c.deref-3.ensures.value at c.reach.ensures.has) none
           self.reached);
       bounded = self.bounded;
       sized = moved.size ∙ self.sized;
       spanned = after-same files display self.bounds self.window self.versions.items self.sized self.spanned c.near_day-near.ensures moved
           (chosen-back files display self.versions.items self.chosen) none;
-      marked = rw c.deref-4.ensures.value at c.of.ensures.marks;
-      known = c.of.ensures.kept;
-      sharing = rw c.deref-4.ensures.value at c.of.ensures.shared;
+      marked = rw c.deref-4.ensures.value at c.search.ensures.marks;
+      known = c.search.ensures.kept;
+      sharing = rw c.deref-4.ensures.value at c.search.ensures.shared;
       not_before = self.not_before;
       begun = self.begun;
-      masters = self.masters;
-      before = self.before;
+      masters = subst (λ m. ∥ AreDayMasters scope self.today.day (merge_all part_sources m) ∥₁) same-merge self.masters;
+      before = subst (λ m. IsLookedBefore scope self.today.day (merge_all part_sources m) self.today.looked) same-merge self.before;
       past = self.past;
       shown = self.shown;
       within = self.within;
       below = self.below;
-      ended = self.ended;
+      ended = subst (λ m. HaveEnded files display (merge_coming part_coming m) self.today.lasts (merge_all part_sources m)) same-merge self.ended;
     }
 
 pub invariant_of-self-3 : goal.invariant_of-self-3
@@ -160,29 +165,29 @@ invariant_of-self-3 c =
     let begun = self.begun in
     let files = map said_by self.files.now in
     let display = display_clock self.display.now in
-    let moved = rw (c.deref-4.ensures.value, c.floor_of.ensures) at c.of.ensures.spans in
+    let moved = rw (c.deref-4.ensures.value, c.floor_of.ensures) at c.search.ensures.spans in
     let masters = searched-masters scope (option_map (λ key. key_rank key.now) c.key_near-key.result) c.near_day-near.ensures
     (λ since f. from-later (first_near self.window self.bounds) self.after self.begun (omega (arith, ints, day, next.ensures.later)) since)
-    (recurring (agenda_sources c.in_ok-agenda.agenda)) c.in_ok-agenda.ensures.sources.each in
+    (recurring (agenda_sources c.search.new.self)) c.in_ok-search.ensures.sources.each in
     record {
       chosen = self.chosen;
       overriding = self.overriding;
       counted = c.reach.ensures.count ∙ self.counted;
-      reached = places-moved c.reach.new.self self.spans.items c.of.new.spans.items (rw c.deref-6.ensures.value at c.of.ensures.others)
+      reached = places-moved c.reach.new.self self.spans.items c.search.new.spans.items (rw c.deref-6.ensures.value at c.search.ensures.others)
           (places-next self.places c.reach.new.self self.spans.items c.near_day-near.ensures (rw c.deref-3.ensures.value at c.reach.ensures.has)
           (omega (arith, ints, day, next.ensures.later)) self.reached);
       bounded = self.bounded;
       sized = moved.size ∙ self.sized;
       spanned = after-next files display self.bounds self.window self.versions.items self.sized self.spanned c.near_day-near.ensures moved
           (omega (arith, ints, day, next.ensures.later));
-      marked = rw c.deref-4.ensures.value at c.of.ensures.marks;
-      known = c.of.ensures.kept;
-      sharing = rw c.deref-4.ensures.value at c.of.ensures.shared;
+      marked = rw c.deref-4.ensures.value at c.search.ensures.marks;
+      known = c.search.ensures.kept;
+      sharing = rw c.deref-4.ensures.value at c.search.ensures.shared;
       not_before = omega (arith, ints, day, next.ensures.later, self.not_before);
       begun = omega (arith, ints, day, next.ensures.later, begun);
       masters = ∣ masters ∣₁;
-      before = looked-before scope (to_z w32 (of_z w32 c.next_day-day.result)) (agenda_sources c.in_ok-agenda.agenda) masters
-          c.in_ok-agenda.agenda.apart.1.1
+      before = looked-before scope (to_z w32 (of_z w32 c.next_day-day.result)) (agenda_sources c.search.new.self) masters
+          c.search.new.self.apart.1.1
           (λ all-masters most n all bounds is. ∥∥₁_elim c.args.self.now.masters le_prop (λ are.
           looked-next scope self.today.day (agenda_sources self.today.agenda) are self.today.agenda.apart.1.1 (agenda_coming self.today.agenda) 0
           (λ m h. omega arith) self.today.looked self.before self.begun (omega (arith, ints, day, next.ensures.later)) (omega arith)
@@ -192,10 +197,10 @@ invariant_of-self-3 c =
       within = self.within;
       below = self.below;
       ended = λ early.
-          let fits : to_z w64 (of_z w64 c.none_given-lasts.result) ≡ c.none_given-lasts.result = search rules in
-          ended-first files display c.near_day-near.result (to_z w64 (of_z w64 c.none_given-lasts.result)) (agenda_coming c.in_ok-agenda.agenda)
-          (agenda_sources c.in_ok-agenda.agenda) (c.none_given-lasts.ensures (omega (arith, ints, early, fits))) c.in_ok-agenda.ensures.listing
-          c.in_ok-agenda.ensures.sources.each;
+          let fits : to_z w64 (of_z w64 c.none_given-self.result) ≡ c.none_given-self.result = search rules in
+          ended-first files display c.near_day-near.result (to_z w64 (of_z w64 c.none_given-self.result)) (agenda_coming c.search.new.self)
+          (agenda_sources c.search.new.self) (c.none_given-self.ensures (omega (arith, ints, early, fits))) c.in_ok-search.ensures.listing
+          c.in_ok-search.ensures.sources.each;
     }
 
 pub returns-clause-day : goal.returns-clause-day
@@ -218,4 +223,4 @@ returns-clause-ahead c = λ list a.
     ahead-turned files display self.window self.bounds self.bounded key
     (λ p u. c.key_near-key.ensures.shown p.entry u.0.listed.1 (subst (λ d. is_on display self.window p.entry d ≡ true) u.1 u.0.on)) later
     (none-between files display self.window self.bounds self.bounded self.versions.items chosen self.spans.items self.sized self.spanned none)
-    c.near_day-near.ensures c.requires.none c.in_ok-agenda.ensures.listing a
+    c.near_day-near.ensures c.requires.none c.in_ok-search.ensures.listing a
