@@ -19,7 +19,7 @@ use Rattle.ics_listing.proofs.ListingLemmas.{all-as, get-in, in-contains}
 use Rattle.ics_days.specs.NearDays.{IsNearDay}
 use Rattle.ics_series.specs.DaySteps.{IsDayMaster, IsNearAgenda, IsPastAgenda, Scope}
 use Rattle.ics_series.specs.HeldMost.{Master}
-use Rattle.ics_series.specs.Inner.Ended.{end_of, AreMovedOff, HasEnded, HaveEnded, IsMasterAt, IsOver}
+use Rattle.ics_series.specs.Inner.Ended.{begins_after, end_of, AreMovedOff, HasEnded, HaveEnded, IsMasterAt, IsOver}
 use Rattle.ics_days.specs.Spans.{always, first_at}
 use Rattle.ics_series.specs.Inner.Spans.{AreSpansAfter, IsKeptFrom, IsPutOff, IsRest, floor_of}
 use Rattle.ics_series.specs.Chosen.{IsMaster}
@@ -69,71 +69,73 @@ found-near near k (Ok i) within holds found = in-contains k near (i, within, exa
 found-near near k (Err i) within holds found = let no : false ≡ true = found in absurd cc
 
 -- at first nothing was given
-pub ended-first : (files : List FileSaid) (display : Clock) (w : Window) {key : Option Rank} (by : ℤ) (coming : List Entry) (sources : List Source)
-    → key ≡ None → IsListing entry_cmp (IsToCome files display w key) coming → AllByRecursion (IsMasterOf files display w key) (recurring sources)
-    → AllByRecursion (HasEnded files display coming by) (recurring sources)
-ended-first files display w {key = key} by coming sources none listing are =
-    all-as (IsMasterOf files display w key) (HasEnded files display coming by) (recurring sources)
+pub ended-first : (files : List FileSaid) (display : Clock) (w : Window) {key : Option Rank} (by least : ℤ) (coming : List Entry)
+    (sources : List Source) → key ≡ None → IsListing entry_cmp (IsToCome files display w key) coming
+    → AllByRecursion (IsMasterOf files display w key) (recurring sources) → AllByRecursion (HasEnded files display coming by least) (recurring sources)
+ended-first files display w {key = key} by least coming sources none listing are =
+    all-as (IsMasterOf files display w key) (HasEnded files display coming by least) (recurring sources)
     (λ m is o e listed away.
     let here : IsToCome files display w key o = rw none (subst (λ n. IsListed files display n o) is.window listed) in
     absurd (away ((listing.exact o).1 here))) are
 
 -- nor was anything where there are no sources
-pub ended-none : (files : List FileSaid) (display : Clock) (coming : List Entry) (by : ℤ) {sources : List Source} → sources ≡ []
-    → AllByRecursion (HasEnded files display coming by) (recurring sources)
-ended-none files display coming by none = rw none tt
+pub ended-none : (files : List FileSaid) (display : Clock) (coming : List Entry) (by least : ℤ) {sources : List Source} → sources ≡ []
+    → AllByRecursion (HasEnded files display coming by least) (recurring sources)
+ended-none files display coming by least none = rw none tt
 
 -- so of a day's agenda
-pub first-ended : (files : List FileSaid) (display : Clock) (by : ℤ) (coming : List Entry) (sources : List Source) {IsNear : Window → Type 0} {last day : ℤ}
-    {key : Option Rank} → key ≡ None → IsNearAgenda files display IsNear key coming sources ⊎ IsPastAgenda last day coming sources
-    → AllByRecursion (HasEnded files display coming by) (recurring sources)
-first-ended files display by coming sources none (inl a) = ended-first files display a.window by coming sources none a.listing a.are.each
-first-ended files display by coming sources none (inr a) = ended-none files display coming by a.no_source
+pub first-ended : (files : List FileSaid) (display : Clock) (by least : ℤ) (coming : List Entry) (sources : List Source) {IsNear : Window → Type 0}
+    {last day : ℤ} {key : Option Rank} → key ≡ None → IsNearAgenda files display IsNear key coming sources ⊎ IsPastAgenda last day coming sources
+    → AllByRecursion (HasEnded files display coming by least) (recurring sources)
+first-ended files display by least coming sources none (inl a) = ended-first files display a.window by least coming sources none a.listing a.are.each
+first-ended files display by least coming sources none (inr a) = ended-none files display coming by least a.no_source
 
 -- then an occurrence is given
-pub ended-given : (files : List FileSaid) (display : Clock) {by next : ℤ} {o : Entry} {old new : List Entry} (ms : List Recurring) → old ≡ o ∷ new
-    → by ≤ℤ next → (is_single o.event ≡ false → end_of o ≤ℤ next) → AllByRecursion (λ m. is_single m.event ≡ false) ms
-    → AllByRecursion (HasEnded files display old by) ms → AllByRecursion (HasEnded files display new next) ms
-ended-given files display [] is later end recur ended = tt
-ended-given files display {by = by} {next = next} {o = o} {old = old} {new = new} (m ∷ ms) is later end recur ended = (
-  λ p e listed away. elim (less_or_not_z next (end_of p)) [
+pub ended-given : (files : List FileSaid) (display : Clock) {by least next : ℤ} {o : Entry} {old new : List Entry} (ms : List Recurring) → old ≡ o ∷ new
+    → next ≤ℤ least → (is_single o.event ≡ false → by <ℤ end_of o → next ≤ℤ o.start) → AllByRecursion (λ m. is_single m.event ≡ false) ms
+    → AllByRecursion (HasEnded files display old by least) ms → AllByRecursion (HasEnded files display new by next) ms
+ended-given files display [] is lesser start recur ended = tt
+ended-given files display {by = by} {next = next} {o = o} (m ∷ ms) is lesser start recur ended = (
+  λ p e listed away lasts. elim (less_or_not_z p.start next) [
     | inl less ↦ absurd (
         let before = ended.0 p e listed (λ there. ⊎_elim
         (λ same.
-        let own = end (ap (λ (x : Entry). is_single x.event) (sym same) ∙ (ap is_single e ∙ recur.0)) in
-        let mine : end_of p ≡ end_of o = ap end_of same in omega (arith, ints, own, mine, less))
-        (λ rest. away rest) (subst (IsIn p) is there)) in
-        omega (arith, ints, before, later, less))
+        let own = start (ap (λ (x : Entry). is_single x.event) (sym same) ∙ (ap is_single e ∙ recur.0))
+        (subst (λ (x : Entry). by <ℤ end_of x) same lasts) in
+        let mine : p.start ≡ o.start = ap (λ (x : Entry). x.start) same in omega (arith, ints, own, mine, less))
+        (λ rest. away rest) (subst (IsIn p) is there)) lasts in
+        omega (arith, ints, before, lesser, less))
     | inr most ↦ most
   ],
-  ended-given files display ms is later end recur.1 ended.1,
+  ended-given files display ms is lesser start recur.1 ended.1,
 )
 
 -- So of the masters of an agenda: where it gives nothing, and where it gives an occurrence.
-pub ended-same : (files : List FileSaid) (display : Clock) {by : ℤ} {old new : List Entry} {before now : List Source} → new ≡ old → now ≡ before
-    → HaveEnded files display old by before → HaveEnded files display new by now
-ended-same files display e f h = rw (e, f) h
+pub ended-same : (files : List FileSaid) (display : Clock) (by : ℤ) {least : ℤ} {old new : List Entry} {before now : List Source} → new ≡ old → now ≡ before
+    → HaveEnded files display old by least before → HaveEnded files display new by least now
+ended-same files display by e f h = rw (e, f) h
 
-pub ended-next : (files : List FileSaid) (display : Clock) {by next : ℤ} {o : Entry} {old new : List Entry} {before now : List Source}
-    → old ≡ o ∷ new → now ≡ before → by ≤ℤ next → (next <ℤ always.last → is_single o.event ≡ false → end_of o ≤ℤ next)
+pub ended-next : (files : List FileSaid) (display : Clock) {by least next : ℤ} {o : Entry} {old new : List Entry} {before now : List Source}
+    → old ≡ o ∷ new → now ≡ before → next ≤ℤ least → (always.first <ℤ next → is_single o.event ≡ false → by <ℤ end_of o → next ≤ℤ o.start)
     → AllByRecursion (λ m. is_single m.event ≡ false) (recurring before)
-    → HaveEnded files display old by before → HaveEnded files display new next now
-ended-next files display {next = next} {new = new} {before = before} is same later end recur h early =
-    subst (λ (xs : List Source). AllByRecursion (HasEnded files display new next) (recurring xs)) (sym same)
-    (ended-given files display (recurring before) is later (end early) recur (h (omega (arith, ints, later, early))))
+    → HaveEnded files display old by least before → HaveEnded files display new by next now
+ended-next files display {by = by} {next = next} {new = new} {before = before} is same lesser start recur h late =
+    subst (λ (xs : List Source). AllByRecursion (HasEnded files display new by next) (recurring xs)) (sym same)
+    (ended-given files display (recurring before) is lesser (start late) recur (h (omega (arith, ints, lesser, late))))
 
--- the masters of which nothing is to come, where what was given has ended
-pub over-all : (s : Scope) (day : ℤ) {by : ℤ} {coming : List Entry} (ms : List Recurring) → coming ≡ [] → by ≤ℤ (midnight (day +ℤ pos 1) -ℤ s.bounds.most)
-    → AllByRecursion (λ m. is_single m.event ≡ false) ms → AllByRecursion (IsDayMaster s day) ms → AllByRecursion (HasEnded s.files s.display coming by) ms
-    → AllByRecursion (IsOver s day) ms
-over-all s day [] none soon recur are ended = tt
-over-all s day (m ∷ ms) none soon recur are ended = (
+-- the masters of which nothing is to come
+pub over-all : (s : Scope) (day least : ℤ) {coming : List Entry} (ms : List Recurring) → coming ≡ []
+    → AllByRecursion (λ m. is_single m.event ≡ false) ms → AllByRecursion (IsDayMaster s day) ms
+    → (always.first <ℤ least → AllByRecursion (HasEnded s.files s.display coming (begins_after s.bounds day) least) ms)
+    → AllByRecursion (IsOver s day least) ms
+over-all s day least [] none recur are ended = tt
+over-all s day least (m ∷ ms) none recur are ended = (
   record {
     searched = are.0;
     recurs = recur.0;
-    ended = λ o e listed away. let end = ended.0 o e listed (λ there. subst (IsIn o) none there) in omega (arith, ints, end, soon);
+    ended = λ late o e listed away lasts. (ended late).0 o e listed (λ there. subst (IsIn o) none there) lasts;
   },
-  over-all s day ms none soon recur.1 are.1 ended.1,
+  over-all s day least ms none recur.1 are.1 (λ late. (ended late).1),
 )
 
 -- The span of such a master at its place.
@@ -172,8 +174,8 @@ module _ {files : List FileSaid} {display : Clock} {vs : List Version} (chosen :
       let same : e ≡ h.0.event = ap (λ o. unwrap_or o e) (sym stands ∙ (ap (λ (l : Label). event_at files l.spot) label-is ∙ placed)) in
       subst (λ x. IsMarkOf x mark) (h.2 ∙ sym same) is))
 
-module _ (s : Scope) (day : ℤ) (vs : List Version) (chosen : AreChosen s.files s.display vs) {m : Recurring} (over : IsOver s day m) {k : ℕ}
-    (at : IsMasterAt (map seen vs) k m.event.uid) where
+module _ (s : Scope) (day : ℤ) (vs : List Version) (chosen : AreChosen s.files s.display vs) {m : Recurring} {least : ℤ} (over : IsOver s day least m)
+    (late : always.first <ℤ least) {k : ℕ} (at : IsMasterAt (map seen vs) k m.event.uid) where
   abbrev by : Placed
   by = over.searched.by
 
@@ -182,22 +184,22 @@ module _ (s : Scope) (day : ℤ) (vs : List Version) (chosen : AreChosen s.files
   own-label = label-at chosen over.searched.is at (ap (λ (x : Master). x.event.uid) over.searched.searched.same)
 
   module _ (x : ℤ) (n : Window) (later : day <ℤ x) (near : IsNearDay s.display s.window s.bounds x n) where
-    -- none that meets a window near a later day begins before the end of the day's own
-    none-early : (o : Entry) → IsOf (clocks_at s.files s.display by.file) by.event o → Meets n o → IsKeptFrom s.files s.display (floor_of s.window) o
-        → o.start <ℤ m.window.to → ⊥
-    none-early o of meets asked begun =
+    -- what meets a window near a later day and begins before the end of the day's own lasts
+    lasts-on : (o : Entry) → IsOf (clocks_at s.files s.display by.file) by.event o → Meets n o → IsKeptFrom s.files s.display (floor_of s.window) o
+        → o.start <ℤ m.window.to → least ≤ℤ o.start
+    lasts-on o of meets asked begun =
         let own = over.searched.searched in
         let here = meets-before m.window n (near-later own.near near (omega (arith, ints, later))) o meets begun in
-        let end = over.ended o (of.event ∙ sym (ap (λ (x : Master). x.event) own.same))
-        (inl (record { master = by; is = over.searched.is; of = of; kept = asked.kept }), here) (λ there. there) in
-        let from : (midnight (day +ℤ pos 1) -ℤ s.bounds.most) ≤ℤ n.from =
+        let from : begins_after s.bounds day ≤ℤ n.from =
         omega (arith, ints, near.from, later, int_max_is s.window.from (midnight x -ℤ s.bounds.most)) in
         let most = int_max_is o.finish (o.start +ℤ pos 1) in
-        ⊎_elim (λ a. omega (arith, ints, a, end, most, from)) (λ b. omega (arith, ints, b.1, end, most, from)) meets.lasting
+        over.ended late o (of.event ∙ sym (ap (λ (x : Master). x.event) own.same))
+        (inl (record { master = by; is = over.searched.is; of = of; kept = asked.kept }), here) (λ there. there)
+        (⊎_elim (λ a. omega (arith, ints, a, most, from)) (λ b. omega (arith, ints, b.1, most, from)) meets.lasting)
 
-  pub over-still : {old new : List Span} → IsPutOff m.clocks m.event m.window m.since None [] old k new
+  pub over-still : {old new : List Span} (put : IsPutOff m.clocks m.event m.window m.since None [] old k new) → put.span.first ≤ℤ least
       → AreSpansAfter s.files s.display s.bounds s.window day (map seen vs) old → AreSpansAfter s.files s.display s.bounds s.window day (map seen vs) new
-  over-still {old = old} put are x n later near = λ j span label event there place stands. ⊎_elim
+  over-still {old = old} put low are x n later near = λ j span label event there place stands. ⊎_elim
       (λ before. are x n later near j span label event before place stands)
       (λ mine.
       let label-is : label ≡ label_of s.files s.display by =
@@ -217,5 +219,5 @@ module _ (s : Scope) (day : ℤ) (vs : List Version) (chosen : AreChosen s.files
       low-start m.since (first_at old k) None put.low o tt
       (from-first s.files s.display n (map seen vs) old (are x n later near) k (at.there ∙ ap Some own-label) by.event placed recurs o of meets asked enough)
       enough)
-      (none-early x n later near)))
+      (λ o of meets asked begun. let start = lasts-on x n later near o of meets asked begun in omega (arith, ints, low, start))))
       (put.put.1 j span there)

@@ -316,37 +316,34 @@ meets-before w n later o m begun = record {
   started = λ t. let from = m.started (subst IsTrue later.same t) in omega (arith, ints, from, later.from);
 }
 
--- The span of a master from a window's end on, where no occurrence that meets another window begins before that end.
+-- The span of a master from a window's end on, where no occurrence that meets another window begins before that end and before the span.
 module _ (clocks : Clocks) (event : Event) (recurs : is_single event ≡ false) (w n : Window) (IsAsked : Entry → Type 0) {since : ℤ} {s : Span}
     (rest : IsRest clocks event w since s)
     (from : (o : Entry) → IsOf clocks event o → Meets n o → IsAsked o → occurrence_first ≤ℤ o.start → since ≤ℤ o.start)
-    (early : (o : Entry) → IsOf clocks event o → Meets n o → IsAsked o → o.start <ℤ w.to → ⊥) where
-  -- one from that end on does not begin before the span
-  late : (o : Entry) → IsOf clocks event o → Meets n o → IsAsked o → w.to ≤ℤ o.start → s.first ≤ℤ o.start
-  late o of meets asked end = rest.first o of end (from o of meets asked (omega (arith, ints, w.not_early, w.ordered, end)))
+    (early : (o : Entry) → IsOf clocks event o → Meets n o → IsAsked o → o.start <ℤ w.to → s.first ≤ℤ o.start) where
+  -- so none does before the span
+  late : (o : Entry) → IsOf clocks event o → Meets n o → IsAsked o → s.first ≤ℤ o.start
+  late o of meets asked = elim (less_or_not_z o.start w.to) [
+    | inl begun ↦ early o of meets asked begun
+    | inr end ↦ rest.first o of end (from o of meets asked (omega (arith, ints, w.not_early, w.ordered, end)))
+  ]
 
   pub rest-span : IsSpanOf clocks event n IsAsked s
   rest-span = record {
     none = λ out. record {
       once = λ single. let no : true ≡ false = sym single ∙ recurs in absurd cc;
-      each = λ recurs o of meets asked. elim (less_or_not_z o.start w.to) [
-        | inl begun ↦ early o of meets asked begun
-        | inr end ↦ absurd (
-            let first = late o of meets asked end in
-            let start = meets.begun in
-            let most : n.to ≤ℤ s.first = elim (less_or_not_z s.first n.to) [
-              | inl less ↦ absurd (
-                  let yes = both-true n n (omega (arith, ints)) s less (omega (arith, ints, rest.last, n.ordered, n.not_late)) in
-                  let no : true ≡ false = sym yes ∙ out in cc)
-              | inr most ↦ most
-            ] in
-            omega (arith, ints, first, start, most))
-      ];
+      each = λ recurs o of meets asked.
+          let first = late o of meets asked in
+          let start = meets.begun in
+          let most : n.to ≤ℤ s.first = elim (less_or_not_z s.first n.to) [
+            | inl less ↦ absurd (
+                let yes = both-true n n (omega (arith, ints)) s less (omega (arith, ints, rest.last, n.ordered, n.not_late)) in
+                let no : true ≡ false = sym yes ∙ out in cc)
+            | inr most ↦ most
+          ] in
+          omega (arith, ints, first, start, most);
     };
-    first = λ recurs o of meets asked enough. elim (less_or_not_z o.start w.to) [
-      | inl begun ↦ absurd (early o of meets asked begun)
-      | inr end ↦ late o of meets asked end
-    ];
+    first = λ recurs o of meets asked enough. late o of meets asked;
   }
 
 -- Spans that are moved on.
@@ -361,7 +358,7 @@ module _ (files : List FileSaid) (display : Clock) (w : Window) (floor : Option 
     none-later old low none rest n later are =
         rest-span (clocks_at files display l.spot.file) r.event r.recurs w n (IsKeptFrom files display floor) rest from
         -- none begins before the window's end, since it would meet the window
-        (λ o of meets asked begun.
+        (λ o of meets asked begun. absurd (
         let come = behind r o of begun in
         none o (record {
           by = r;
@@ -369,7 +366,7 @@ module _ (files : List FileSaid) (display : Clock) (w : Window) (floor : Option 
           meets = meets-before w n later o meets begun;
           later = come.1 (from o of meets asked come.0);
           kept = asked.kept;
-        }))
+        })))
       where
         from : (o : Entry) → IsOf (clocks_at files display l.spot.file) r.event o → Meets n o → IsKeptFrom files display floor o
             → occurrence_first ≤ℤ o.start → since ≤ℤ o.start

@@ -16,14 +16,13 @@ ghost use Rattle.ics_series.specs.DaySteps.{AreMasters, IsNearAgenda, IsPastAgen
 ghost use Rattle.ics_days.specs.NearDays.{first_near, last_near, HasOffsets, IsNearDay};
 ghost use Rattle.ics_days.specs.Offsets.{AreOffsets};
 ghost use Rattle.ics_listing.specs.Entry.{entry_of, key_rank, Entry};
-ghost use Rattle.ics_fields.specs.Locals.{midnight};
 ghost use Rattle.ics_starts.specs.SingleEvents.{is_single};
 ghost use Rattle.ics_zone.specs.Seconds.{IsDay};
 ghost use Rattle.ics_series.specs.HeldMost.{held_most};
 ghost use Rattle.ics_listing.specs.Listing.{IsIn, IsListing};
 ghost use Rattle.ics_listing.specs.Merges.{merge_coming};
 ghost use Rattle.ics_series.specs.AgendaParts.{part_coming};
-ghost use Rattle.ics_series.specs.Inner.Ended.{end_of, have-ended-prop, HaveEnded};
+ghost use Rattle.ics_series.specs.Inner.Ended.{begins_after, end_of, have-ended-prop, HaveEnded};
 ghost use Rattle.ics_series.specs.Inner.Kept.{kept-prop, AreKept};
 ghost use Rattle.ics_series.specs.Inner.Marks.{marks-prop, AreMarks};
 ghost use Rattle.ics_series.specs.Inner.Shared.{shared-prop, AreShared};
@@ -116,9 +115,10 @@ pub struct Days<'a> {
     ghost shown: { (t : ℤ) → window.from ≤ℤ t → t <ℤ window.to → date_at (display_clock display.now) t ≤ℤ last },
     ghost within: { last ≤ℤ last_near window bounds },
     ghost below: { floor.start ≡ window.from -ℤ pos 1 },
-    ghost ended: { HaveEnded (map said_by files.now) (display_clock display.now) (merge_coming part_coming today.agenda.merge) today.lasts
-        (agenda_sources today.agenda) } by { have-ended-prop (map said_by files.now) (display_clock display.now)
-            (merge_coming part_coming today.agenda.merge) today.lasts (agenda_sources today.agenda) },
+    ghost ended: { HaveEnded (map said_by files.now) (display_clock display.now) (merge_coming part_coming today.agenda.merge)
+        (begins_after bounds today.day) today.lasts (agenda_sources today.agenda) } by { have-ended-prop (map said_by files.now)
+            (display_clock display.now) (merge_coming part_coming today.agenda.merge) (begins_after bounds today.day) today.lasts
+            (agenda_sources today.agenda) },
 }
 
 // A day of a listing.
@@ -129,7 +129,8 @@ struct Today<'a> {
     agenda: Agenda<'a>,
     // How many periods of rules were looked at for the days before and, once the agenda was dropped, for this one.
     looked: u64,
-    // The greatest end of what recurs and was given of it, or the last instant of all where that is not known or not asked.
+    // The least start of what recurs, was given of it and lasts to what a later day can hold, or the last instant of all if nothing does. It is the first
+    // where that is not known or not asked.
     lasts: Moment,
 }
 
@@ -335,7 +336,12 @@ impl<'a> Days<'a> {
         ensures err { (list : List OnDay) → IsAhead self.old list → OnErr result (IsAhead self.new list) }
     {
         while let Some(occurrence) = self.today.agenda.next()? {
-            self.today.lasts = later_end(self.today.lasts, &occurrence);
+            self.today.lasts = least_lasting(
+                self.today.lasts,
+                self.bounds,
+                self.today.day,
+                &occurrence,
+            );
             let today = is_today(
                 self.display,
                 &self.window,
@@ -367,7 +373,7 @@ impl<'a> Days<'a> {
     {
         let looked = self.today.looked.saturating_add(self.today.agenda.steps());
         self.today.looked = looked;
-        let over = self.today.lasts <= begin_after(self.bounds, self.today.day);
+        let least = self.today.lasts;
         let mut leads = self.today.agenda.end(self.alloc);
         let places = &self.places;
         give_back(
@@ -377,7 +383,7 @@ impl<'a> Days<'a> {
             &mut self.spans,
             &mut self.marks,
             &mut leads,
-            over,
+            least,
         );
         leads
     }
@@ -476,38 +482,43 @@ fn may_begin_after(
 
 /// The least instant with which what the window holds near a later day can begin.
 fn begin_after(bounds: Bounds, day: i32) -> Moment
-    requires offsets { AreOffsets bounds }
-    requires day { IsDay day }
-    ensures { result ≡ midnight (day +ℤ pos 1) -ℤ bounds.most }
+    requires { AreOffsets bounds }
+    ensures { result ≡ begins_after bounds day }
 {
-    let next = day + 1;
-    i64::from(next) * DAY - bounds.most
+    let next = i64::from(day) + 1;
+    next * DAY - bounds.most
 }
 
-/// What stands for the greatest end of what recurs and was given behind a key, before anything was given: the last instant of all with
+/// What stands for the least start of what recurs, was given behind a key and lasts, before anything was given: the first instant of all with
 /// a key, or where nothing recurs.
 fn none_given(key: Option<&Key>, recurs: bool) -> Moment
-    ensures { result <ℤ always.last → option_map (λ key. key_rank key.now) key.entry ≡ None }
+    ensures { always.first <ℤ result → option_map (λ key. key_rank key.now) key.entry ≡ None }
 {
     match key {
-        None if recurs => Moment::MIN,
-        _ => Moment::MAX,
+        None if recurs => Moment::MAX,
+        _ => Moment::MIN,
     }
 }
 
-/// The later of an instant and of the first from which on an occurrence meets no window, if its event recurs. There is none later than the last of all.
-fn later_end(lasts: Moment, occurrence: &Occurrence<'_>) -> Moment
-    ensures least { lasts ≤ℤ result }
-    ensures end { result <ℤ always.last → is_single occurrence.now.event.now ≡ false → end_of (entry_of occurrence.now) ≤ℤ result }
+/// The lesser of an instant and of the start of an occurrence, if its event recurs and it lasts to what a window can hold near a day after this one. None
+/// is less than the first of all.
+fn least_lasting(lasts: Moment, bounds: Bounds, day: i32, occurrence: &Occurrence<'_>) -> Moment
+    requires { AreOffsets bounds }
+    ensures least { result ≤ℤ lasts }
+    ensures start { always.first <ℤ result → is_single occurrence.now.event.now ≡ false
+        → begins_after bounds day <ℤ end_of (entry_of occurrence.now) → result ≤ℤ occurrence.now.start }
 {
-    if lasts == Moment::MAX {
+    if lasts <= occurrence.start {
+        return lasts;
+    }
+    let after = begin_after(bounds, day);
+    if occurrence.finish <= after && occurrence.start < after {
         return lasts;
     }
     if is_single(occurrence.event) {
         return lasts;
     }
-    let past = occurrence.start.saturating_add(1);
-    lasts.max(occurrence.finish).max(past)
+    occurrence.start
 }
 
 /// The day with which a listing begins, and the key after which it does there.

@@ -1,5 +1,5 @@
 //! The series of masters that rest from one day to another, each at the place of its version.
-ghost use Rattle.std.specs.Prelude.{◌≡◌, [], true, List, Some};
+ghost use Rattle.std.specs.Prelude.{◌≡◌, [], List, Some};
 ghost use Rattle.std.specs.List.{AllByRecursion};
 ghost use Rattle.ics_file.specs.File.{FileSaid};
 ghost use Rattle.ics_listing.specs.FileClocks.{Clock};
@@ -15,6 +15,7 @@ use ics_days::Span;
 use ics_event::Event;
 use ics_listing::Lead;
 use ics_starts::{Mark, Series};
+use ics_values::Moment;
 use std::alloc::AllocError;
 
 /// Makes places for them, at which none rests.
@@ -71,8 +72,8 @@ fn put_at<'a>(kept: &mut Vec<Option<Box<Series<'a>>>>, placed: PlacedSeries<'a>)
     }
 }
 
-/// Takes the leads of a day that has ended, and keeps their series, each at its place. Where nothing that was given lasts longer, the spans and
-/// the marks are moved on.
+/// Takes the leads of a day that has ended, and keeps their series, each at its place. The spans and the marks are moved on, up to the least start of
+/// what was given and lasts, if that is known.
 #[tactic(auto, using(crate::proofs::OverLemmas::moved_none, crate::proofs::OverLemmas::stay_none))]
 pub(crate) fn give_back<'a>(
     kept: &mut Vec<Option<Box<Series<'a>>>>,
@@ -81,18 +82,18 @@ pub(crate) fn give_back<'a>(
     spans: &mut Vec<Span>,
     marks: &mut Vec<Option<Mark>>,
     leads: &mut Vec<Lead<'a, Part<'a>>>,
-    over: bool,
+    least: Moment,
 )
     ensures kept { (files : List FileSaid) (display : Clock) → AllByRecursion (λ l. IsPartOf files display l.feed) leads.old.items
         → AreKept files display kept.old.items → AreKept files display kept.new.items }
     ensures spans { AreMovedOff versions.entry.now near.entry.now
-        (λ s day. over ≡ true → AllByRecursion (λ l. IsOverPart s day l.feed) leads.old.items) spans.old.items spans.new.items }
+        (λ s day. AllByRecursion (λ l. IsOverPart s day least l.feed) leads.old.items) spans.old.items spans.new.items }
     ensures marks { StayMarks versions.entry.now (λ files display. AllByRecursion (λ l. IsPartOf files display l.feed) leads.old.items)
         marks.old.items marks.new.items }
     ensures leads { leads.new.items ≡ [] }
 {
     while let Some(lead) = leads.pop() {
-        if let Some(placed) = lead.into_feed().end(versions, near, spans, marks, over) {
+        if let Some(placed) = lead.into_feed().end(versions, near, spans, marks, least) {
             put_at(kept, placed);
         }
     }

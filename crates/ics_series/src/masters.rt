@@ -47,6 +47,9 @@ use ics_zone::Display;
 use std::alloc::{AllocError, Global};
 use std::cmp::Ordering;
 
+/// A week, in seconds.
+const WEEK: i64 = 604_800;
+
 /// Adds a feed for each version that counts and whose event recurs: its occurrences that meet the
 /// window and, with a key, come after it, but for those that overrides replace. Those of versions that are at none
 /// of the near places, or whose spans cannot meet the window, are left out. The searches of rules under COUNT go on from their marks, and
@@ -145,8 +148,14 @@ fn move_on(
     Ok(())
 }
 
-/// Moves on the span at the place of a series with nothing to come, if that is a near one of its version and the series does not begin later
-/// than the span. The mark is moved on too, if the series tells one. It is apart from the end of a day, on most of which nothing recurs.
+/// Whether the span at a place begins more than a week before an instant. To move it on takes longer than to search a few days once more.
+pub(crate) fn is_far(spans: &[Span], place: usize, moment: Moment) -> bool {
+    first_at(spans, place) < moment.saturating_sub(WEEK)
+}
+
+/// Moves on the span at the place of a series with nothing to come, up to the least start of what lasts. It is left where that is not later, the
+/// place is not a near one of its version, or the series begins later than the span. The mark is moved on too, if the series tells one before that
+/// start. It is apart from the end of a day, on most of which nothing recurs.
 #[inline(never)]
 #[tactic(auto, using(crate::proofs::OverLemmas::moved_none, crate::proofs::OverLemmas::stay_none))]
 pub(crate) fn move_off(
@@ -155,12 +164,14 @@ pub(crate) fn move_off(
     spans: &mut Vec<Span>,
     marks: &mut Vec<Option<Mark>>,
     ended: &PlacedSeries<'_>,
+    least: Moment,
 )
-    ensures spans { AreMovedOff versions.now near.now (λ s day. IsOverPart s day (part.Series ended.now)) spans.old.items spans.new.items }
+    ensures spans { AreMovedOff versions.now near.now (λ s day. IsOverPart s day least (part.Series ended.now)) spans.old.items spans.new.items }
     ensures marks { StayMarks versions.now (λ files display. IsPartOf files display (part.Series ended.now)) marks.old.items marks.new.items }
 {
     let place = ended.place;
-    if first_at(spans, place) < ended.series.since() {
+    let begin = first_at(spans, place);
+    if begin < ended.series.since() || least <= begin {
         return;
     }
     let event = ended.event;
@@ -171,12 +182,15 @@ pub(crate) fn move_off(
         return;
     }
     let mut mark = None;
+    let quiet = ended.series.quiet(&mut mark);
     let span = Span {
-        first: ended.series.quiet(&mut mark),
+        first: quiet.min(least),
         last: Moment::MAX,
     };
+    if quiet <= least {
+        put_mark(marks, place, mark);
+    }
     put_span(spans, place, span);
-    put_mark(marks, place, mark);
 }
 
 /// Whether a place is a near one.

@@ -2,7 +2,7 @@
 ghost use Rattle.std.specs.Prelude.{◌≡◌};
 ghost use Rattle.ics_starts.specs.SeriesLaws.{event-set};
 
-use crate::masters::move_off;
+use crate::masters::{is_far, move_off};
 use crate::singles::Singles;
 use crate::version::Version;
 use ics_days::Span;
@@ -30,15 +30,15 @@ pub(crate) struct PlacedSeries<'a> {
 }
 
 impl<'a> Part<'a> {
-    ghost use Rattle.std.specs.Prelude.{◌≡◌, true, List, MatchOption, Some};
+    ghost use Rattle.std.specs.Prelude.{◌≡◌, List, MatchOption, Some};
     ghost use Rattle.ics_file.specs.File.{FileSaid};
     ghost use Rattle.ics_listing.specs.FileClocks.{Clock};
     ghost use Rattle.ics_series.specs.Inner.Ended.{AreMovedOff, IsOverPart};
     ghost use Rattle.ics_series.specs.Inner.Kept.{IsKeptIn, IsPartOf};
     ghost use Rattle.ics_series.specs.Inner.Marks.{StayMarks};
 
-    /// Ends it, with nothing to come. The series of a master is given back. Where nothing that was given lasts longer, the span and the mark
-    /// of the master are moved on.
+    /// Ends it, with nothing to come. The series of a master is given back. Its span and its mark are moved on, up to the least start of what was
+    /// given and lasts, if that is known and far.
     #[tactic(auto, using(crate::proofs::OverLemmas::moved_none, crate::proofs::OverLemmas::stay_none))]
     pub(crate) fn end(
         self,
@@ -46,19 +46,20 @@ impl<'a> Part<'a> {
         near: &[usize],
         spans: &mut Vec<Span>,
         marks: &mut Vec<Option<Mark>>,
-        over: bool,
+        least: Moment,
     ) -> Option<PlacedSeries<'a>>
         ensures kept { (files : List FileSaid) (display : Clock) → IsPartOf files display self.entry
             → MatchOption result (Unit {0}) (λ placed. IsKeptIn files display (Some placed.series)) }
-        ensures spans { AreMovedOff versions.entry.now near.entry.now (λ s day. over ≡ true → IsOverPart s day self.entry)
+        ensures spans { AreMovedOff versions.entry.now near.entry.now (λ s day. IsOverPart s day least self.entry)
             spans.old.items spans.new.items }
         ensures marks { StayMarks versions.entry.now (λ files display. IsPartOf files display self.entry) marks.old.items marks.new.items }
     {
         match self {
             Part::Singles(_) => None,
             Part::Series(mut placed) => {
-                if over {
-                    move_off(versions, near, spans, marks, &placed);
+                let far = is_far(spans, placed.place, least);
+                if far {
+                    move_off(versions, near, spans, marks, &placed, least);
                 }
                 placed.series.rest();
                 Some(placed)

@@ -114,10 +114,4 @@ returns-clause-none c = λ x later early s m clock n near-x.
     (slice_get_read c.args.spans.now (length c.args.spans.now) there.0 s refl there.1 (sym there.2))
 
 pub begin_after-from-requires : goal.begin_after-from-requires
-begin_after-from-requires c =
-    let day : to_z w32 (of_z w32 c.args.day) ≡ c.args.day = search rules in
-    record {
-      offsets = c.requires.offsets;
-      day = subst IsDay (sym day)
-          (day-fits c.args.window.now c.args.bounds c.requires.offsets c.args.day c.requires.low (omega (arith, ints, c.requires.more, c.requires.last)));
-    }
+begin_after-from-requires c = c.requires.offsets

@@ -1,14 +1,10 @@
-use Rattle.std.proofs.Common.{◌≡◌, ◌∙◌, ◌≤ℤ◌, ◌+ℤ◌, ◌-ℤ◌, pos, map, refl, arith, rules, subst, sym, to_z, of_z, w32, w64}
+use Rattle.std.proofs.Common.{◌≡◌, ◌∙◌, map, refl, arith, rules, subst, sym, to_z, of_z, w64}
 use Rattle.std.specs.List.{AllByRecursion}
 use Rattle.std.proofs.Math.Bridge.{le_prop}
 use Rattle.std.proofs.Math.Logic.{∥∥₁_elim}
 use Rattle.std.proofs.lemmas.Int.{ints}
 use Rattle.ics_file.specs.File.{said_by}
-use Rattle.ics_days.proofs.NearDayLemmas.{bounds-offsets, day-fits}
-use Rattle.ics_fields.specs.Locals.{midnight}
 use Rattle.ics_series.specs.Ahead.{agenda_coming}
-use Rattle.ics_zone.proofs.Cases.{int_le_true}
-use Rattle.ics_zone.specs.Seconds.{IsDay}
 use Rattle.ics_starts.specs.Clocks.{display_clock}
 use Rattle.ics_series.specs.DaySteps.{agenda_sources, scope_in}
 use Rattle.ics_series.proofs.AheadLemmas.{ahead-dropped, day-masters, looked-dropped, no-masters}
@@ -16,7 +12,7 @@ use Rattle.ics_series.proofs.KnownLemmas.{each-of, parts-of}
 use Rattle.ics_series.proofs.OverLemmas.{ended-none, over-all}
 use Rattle.ics_series.proofs.ReachLemmas.{places-moved}
 use Rattle.ics_series.proofs.SpanLemmas.{chosen-back}
-use Rattle.ics_series.specs.Inner.Ended.{IsOver, IsOverPart}
+use Rattle.ics_series.specs.Inner.Ended.{begins_after, IsOver, IsOverPart}
 use Rattle.ics_series.specs.Inner.SpanLaws.{spans-after-prop}
 use Rattle.ics_series.specs.Versions.{seen}
 use Rattle.ics_series.specs.Inner.Kept.{kept-prop, IsPartOf}
@@ -31,12 +27,7 @@ invariant_of-self c =
     let more = c.requires.more in
     let files = map said_by self.files.now in
     let display = display_clock self.display.now in
-    let fits : to_z w32 (of_z w32 c.args.self.now.today.day) ≡ c.args.self.now.today.day = search rules in
     let lasts-fit : to_z w64 (of_z w64 c.args.self.now.today.lasts) ≡ c.args.self.now.today.lasts = search rules in
-    let from-fits : to_z w64 (of_z w64 c.begin_after.result) ≡ c.begin_after.result = search rules in
-    let offsets = bounds-offsets display self.window self.bounds self.bounded in
-    let short = offsets.most_short in
-    let within = day-fits self.window self.bounds offsets self.today.day self.not_before (omega (arith, ints, more, self.within)) in
     record {
       chosen = self.chosen;
       overriding = self.overriding;
@@ -47,17 +38,12 @@ invariant_of-self c =
       bounded = self.bounded;
       spanned = ∥∥₁_elim c.args.self.now.masters
           (spans-after-prop files display self.bounds self.window self.today.day (map seen self.versions.items) c.give_back.new.spans.items) (λ are.
-          (rw c.deref.ensures.value at c.give_back.ensures.spans).still scope self.today.day
+          (rw (lasts-fit, c.deref.ensures.value) at c.give_back.ensures.spans).still scope self.today.day
           (chosen-back files display self.versions.items self.chosen)
-          (λ over.
-          let lasts : c.args.self.now.today.lasts ≤ℤ c.begin_after.result =
-          omega (arith, ints, int_le_true (to_z w64 (of_z w64 self.today.lasts)) (to_z w64 (of_z w64 c.begin_after.result)) over, lasts-fit, from-fits) in
-          let soon : c.args.self.now.today.lasts ≤ℤ (midnight (c.args.self.now.today.day +ℤ pos 1) -ℤ c.args.self.now.bounds.most) =
-          omega (arith, ints, lasts, c.begin_after.ensures, fits) in
-          subst (AllByRecursion (λ l. IsOverPart scope self.today.day l.feed)) (sym c.end-leads.ensures.leads)
-          (each-of (IsOver scope self.today.day) (λ l. l.feed) self.today.agenda.merge.leads.items
-          (over-all scope self.today.day (recurring (agenda_sources self.today.agenda)) c.requires.none
-          soon self.today.agenda.apart.1.0 are (self.ended (omega (arith, ints, soon, within.1, short.0))))))
+          (subst (AllByRecursion (λ l. IsOverPart scope self.today.day self.today.lasts l.feed)) (sym c.end-leads.ensures.leads)
+          (each-of (IsOver scope self.today.day self.today.lasts) (λ l. l.feed) self.today.agenda.merge.leads.items
+          (over-all scope self.today.day self.today.lasts (recurring (agenda_sources self.today.agenda)) c.requires.none
+          self.today.agenda.apart.1.0 are self.ended)))
           self.spanned);
       marked = ∥∥₁_elim c.args.self.now.masters (marks-prop files (map seen self.versions.items) c.give_back.new.marks.items) (λ are.
           (rw c.deref.ensures.value at c.give_back.ensures.marks).still files display (chosen-back files display self.versions.items self.chosen)
@@ -81,8 +67,8 @@ invariant_of-self c =
       shown = self.shown;
       within = self.within;
       below = self.below;
-      ended = λ early.
-          ended-none files display (agenda_coming c.end-leads.new.self) self.today.lasts c.end-leads.ensures.sources;
+      ended = λ late. ended-none files display (agenda_coming c.end-leads.new.self) (begins_after self.bounds self.today.day)
+          self.today.lasts c.end-leads.ensures.sources;
     }
 
 pub returns-clause-counted : goal.returns-clause-counted
@@ -92,14 +78,3 @@ pub returns-clause-ahead : goal.returns-clause-ahead
 returns-clause-ahead c = λ list a.
     let self = c.args.self.now in
     ahead-dropped (map said_by self.files.now) (display_clock self.display.now) self.window self.today.day c.requires.none c.end-leads.ensures.none list a
-
-pub begin_after-requires : goal.begin_after-requires
-begin_after-requires c =
-    let self = c.args.self.now in
-    let offsets = bounds-offsets (display_clock self.display.now) self.window self.bounds self.bounded in
-    let fits : to_z w32 (of_z w32 c.args.self.now.today.day) ≡ c.args.self.now.today.day = search rules in
-    record {
-      offsets = offsets;
-      day = subst IsDay (sym fits)
-          (day-fits self.window self.bounds offsets self.today.day self.not_before (omega (arith, ints, c.requires.more, self.within)));
-    }

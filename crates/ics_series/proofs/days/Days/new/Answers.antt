@@ -15,6 +15,7 @@ use Rattle.ics_series.proofs.MarkLemmas.{marks-none}
 use Rattle.ics_series.proofs.OverLemmas.{first-ended}
 use Rattle.ics_series.proofs.SpanLemmas.{those-chosen}
 use Rattle.ics_series.proofs.WholeLemmas.{keys, masters-listed, whole}
+use Rattle.ics_series.specs.Inner.Ended.{begins_after}
 use Rattle.ics_series.specs.Inner.Kept.{AreKept}
 use Rattle.ics_series.proofs.days.Days.new.Goals as goal
 
@@ -109,6 +110,7 @@ invariant_of-result c =
       ended = λ early.
           let fits : to_z w64 (of_z w64 c.none_given-lasts.result) ≡ c.none_given-lasts.result = search rules in
           let none = c.none_given-lasts.ensures (omega (arith, ints, early, fits)) in
-          first-ended (map said_by c.args.files.now) (display_clock c.args.display.now) (to_z w64 (of_z w64 c.none_given-lasts.result))
+          first-ended (map said_by c.args.files.now) (display_clock c.args.display.now)
+          (begins_after c.bounds_in-bounds.result (to_z w32 (of_z w32 c.begin-day.result.0))) (to_z w64 (of_z w64 c.none_given-lasts.result))
           (agenda_coming c.in_ok-agenda.agenda) (agenda_sources c.in_ok-agenda.agenda) none c.in_ok-agenda.ensures.agenda;
     }

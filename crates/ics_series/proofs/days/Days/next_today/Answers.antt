@@ -2,11 +2,13 @@ use Rattle.std.proofs.Common.{◌≡◌, List, map, arith, rules, sym, ◌∙◌
 use Rattle.std.proofs.lemmas.Int.{ints}
 use Rattle.ics_fields.specs.Days.{IsDayNumber}
 use Rattle.ics_file.specs.File.{said_by}
+use Rattle.ics_days.proofs.NearDayLemmas.{bounds-offsets}
 use Rattle.ics_series.specs.Ahead.{agenda_coming, scope_of}
 use Rattle.ics_starts.specs.Clocks.{display_clock}
 use Rattle.ics_listing.specs.Entry.{entry_of}
 use Rattle.ics_listing.specs.FeedSources.{Source}
 use Rattle.ics_series.specs.DaySteps.{agenda_sources, AreDayMasters, IsLookedBefore}
+use Rattle.ics_series.specs.Inner.Ended.{begins_after}
 use Rattle.ics_series.specs.declared.days.Days.{Days}
 use Rattle.ics_series.proofs.AheadLemmas.{ahead-given, ahead-skipped}
 use Rattle.ics_series.proofs.OverLemmas.{ended-next, ended-same}
@@ -68,7 +70,8 @@ invariant_of-self c =
       shown = self.shown;
       within = self.within;
       below = self.below;
-      ended = ended-same (map said_by self.files.now) (display_clock self.display.now) c.in_err-occurrence.ensures.err c.next.ensures.sources self.ended;
+      ended = ended-same (map said_by self.files.now) (display_clock self.display.now) (begins_after self.bounds self.today.day)
+          c.in_err-occurrence.ensures.err c.next.ensures.sources self.ended;
     }
 
 pub invariant_of-self-in-Some-clause-before : goal.invariant_of-self-in-Some-clause-before
@@ -78,10 +81,17 @@ pub invariant_of-self-in-Some-clause-ended : goal.invariant_of-self-in-Some-clau
 invariant_of-self-in-Some-clause-ended c =
     let self = c.loop-occurrence.self in
     let gives = rw c.in-Some.is at c.in_ok-occurrence.ensures.ok in
-    let fits : to_z w64 (of_z w64 c.later_end-self.result) ≡ c.later_end-self.result = search rules in
+    let fits : to_z w64 (of_z w64 c.least_lasting-self.result) ≡ c.least_lasting-self.result = search rules in
     let old-fits : to_z w64 (of_z w64 c.loop-occurrence.self.today.lasts) ≡ c.loop-occurrence.self.today.lasts = search rules in
+    let day-fits : to_z w32 (of_z w32 c.loop-occurrence.self.today.day) ≡ c.loop-occurrence.self.today.day = search rules in
     ended-next (map said_by self.files.now) (display_clock self.display.now) gives c.next.ensures.sources
-    (omega (arith, ints, fits, old-fits, c.later_end-self.ensures.least)) (rw fits c.later_end-self.ensures.end) self.today.agenda.apart.1.0 self.ended
+    (omega (arith, ints, fits, old-fits, c.least_lasting-self.ensures.least)) (rw fits (rw day-fits at c.least_lasting-self.ensures.start))
+    self.today.agenda.apart.1.0 self.ended
+
+pub least_lasting-self-requires : goal.least_lasting-self-requires
+least_lasting-self-requires c =
+    let self = c.loop-occurrence.self in
+    bounds-offsets (display_clock self.display.now) self.window self.bounds self.bounded
 
 pub invariant_of-self-in_default-clause-before : goal.invariant_of-self-in_default-clause-before
 invariant_of-self-in_default-clause-before c = looked-same c.loop-occurrence.self c.next.ensures.sources
@@ -90,4 +100,5 @@ pub invariant_of-self-in_default-clause-ended : goal.invariant_of-self-in_defaul
 invariant_of-self-in_default-clause-ended c =
     let self = c.loop-occurrence.self in
     let gives = rw c.in_default.is at c.in_ok-occurrence.ensures.ok in
-    ended-same (map said_by self.files.now) (display_clock self.display.now) (gives.1 ∙ sym gives.0) c.next.ensures.sources self.ended
+    ended-same (map said_by self.files.now) (display_clock self.display.now) (begins_after self.bounds self.today.day)
+    (gives.1 ∙ sym gives.0) c.next.ensures.sources self.ended

@@ -10,7 +10,7 @@ use Rattle.ics_starts.specs.Clocks.{display_clock}
 use Rattle.ics_listing.specs.Merges.{merge_all, merge_coming}
 use Rattle.ics_series.specs.AgendaParts.{part_coming, part_sources}
 use Rattle.ics_series.specs.DaySteps.{agenda_sources, scope_in, AreDayMasters, IsLookedBefore}
-use Rattle.ics_series.specs.Inner.Ended.{HaveEnded}
+use Rattle.ics_series.specs.Inner.Ended.{begins_after, HaveEnded}
 use Rattle.ics_days.specs.NearDays.{first_near}
 use Rattle.ics_days.proofs.NearDayLemmas.{bounds-offsets, day-fits}
 use Rattle.ics_series.specs.Sources.{recurring}
@@ -152,7 +152,8 @@ invariant_of-self-in-Break-branch-2 c =
       shown = self.shown;
       within = self.within;
       below = self.below;
-      ended = subst (λ m. HaveEnded files display (merge_coming part_coming m) self.today.lasts (merge_all part_sources m)) same-merge self.ended;
+      ended = subst (λ m. HaveEnded files display (merge_coming part_coming m) (begins_after self.bounds self.today.day) self.today.lasts
+          (merge_all part_sources m)) same-merge self.ended;
     }
 
 pub invariant_of-self-3 : goal.invariant_of-self-3
@@ -198,8 +199,9 @@ invariant_of-self-3 c =
       below = self.below;
       ended = λ early.
           let fits : to_z w64 (of_z w64 c.none_given-self.result) ≡ c.none_given-self.result = search rules in
-          ended-first files display c.near_day-near.result (to_z w64 (of_z w64 c.none_given-self.result)) (agenda_coming c.search.new.self)
-          (agenda_sources c.search.new.self) (c.none_given-self.ensures (omega (arith, ints, early, fits))) c.in_ok-search.ensures.listing
+          ended-first files display c.near_day-near.result (begins_after self.bounds (to_z w32 (of_z w32 c.next_day-day.result)))
+          (to_z w64 (of_z w64 c.none_given-self.result)) (agenda_coming c.search.new.self) (agenda_sources c.search.new.self)
+          (c.none_given-self.ensures (omega (arith, ints, early, fits))) c.in_ok-search.ensures.listing
           c.in_ok-search.ensures.sources.each;
     }
 

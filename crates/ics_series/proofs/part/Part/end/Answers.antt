@@ -1,4 +1,4 @@
-use Rattle.std.proofs.Common.{◌≡◌, ◌∙◌, Option, Vec, Global, ap, true, sym, subst}
+use Rattle.std.proofs.Common.{◌≡◌, ◌∙◌, Option, Vec, Global, ap, rules, sym, subst, to_z, of_z, w64}
 use Rattle.ics_starts.specs.declared.series.Series.{Series}
 use Rattle.ics_series.specs.Inner.Kept.{IsEventOfMaster, IsPartOf}
 use Rattle.ics_series.specs.Inner.Ended.{AreMovedOff, IsOverPart}
@@ -7,7 +7,7 @@ use Rattle.ics_days.specs.declared.span.Span.{Span}
 use Rattle.ics_starts.specs.declared.mark.Mark.{Mark}
 use Rattle.ics_series.proofs.OverLemmas.{moved-as, moved_none, stay_none}
 use Rattle.ics_series.proofs.part.Part.end.Goals as goal
-use Rattle.ics_series.proofs.part.Part.end.Goals.{then-over, else-over}
+use Rattle.ics_series.proofs.part.Part.end.Goals.{then-far, else-far}
 
 pub returns-clause-kept : goal.returns-clause-kept
 returns-clause-kept c = λ files display part.
@@ -16,20 +16,21 @@ returns-clause-kept c = λ files display part.
 
 pub returns-clause-spans : goal.returns-clause-spans
 returns-clause-spans c =
-    let Are = AreMovedOff c.args.versions.now c.args.near.now (λ s day. c.args.over ≡ true → IsOverPart s day c.args.self) c.args.spans.now.items in
-    elim c.if-over.branch [
-      | then-over w ↦ subst Are (sym (ap (λ (p : Vec Span Global). p.items) w.spans-is))
-          (moved-as w.move_off.ensures.spans (λ s day known. subst (IsOverPart s day) c.in-Series.is (known w.if-over.true)))
-      | else-over w ↦ subst Are (sym (ap (λ (p : Vec Span Global). p.items) w.spans-is)) (moved_none c.args.spans.now.items)
+    let Are = AreMovedOff c.args.versions.now c.args.near.now (λ s day. IsOverPart s day c.args.least c.args.self) c.args.spans.now.items in
+    let fits : to_z w64 (of_z w64 c.args.least) ≡ c.args.least = search rules in
+    elim c.if-far.branch [
+      | then-far w ↦ subst Are (sym (ap (λ (p : Vec Span Global). p.items) w.spans-is))
+          (moved-as (rw fits at w.move_off.ensures.spans) (λ s day. subst (IsOverPart s day c.args.least) c.in-Series.is))
+      | else-far w ↦ subst Are (sym (ap (λ (p : Vec Span Global). p.items) w.spans-is)) (moved_none c.args.spans.now.items)
     ]
 
 pub returns-clause-marks : goal.returns-clause-marks
 returns-clause-marks c =
     let Stay = StayMarks c.args.versions.now (λ files display. IsPartOf files display c.args.self) c.args.marks.now.items in
-    elim c.if-over.branch [
-      | then-over w ↦ subst Stay (sym (ap (λ (p : Vec (Option Mark) Global). p.items) w.marks-is)) (record {
+    elim c.if-far.branch [
+      | then-far w ↦ subst Stay (sym (ap (λ (p : Vec (Option Mark) Global). p.items) w.marks-is)) (record {
         still = λ files display chosen part are.
             w.move_off.ensures.marks.still files display chosen (subst (IsPartOf files display) c.in-Series.is part) are;
       })
-      | else-over w ↦ subst Stay (sym (ap (λ (p : Vec (Option Mark) Global). p.items) w.marks-is)) (stay_none c.args.marks.now.items)
+      | else-far w ↦ subst Stay (sym (ap (λ (p : Vec (Option Mark) Global). p.items) w.marks-is)) (stay_none c.args.marks.now.items)
     ]
