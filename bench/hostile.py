@@ -191,11 +191,18 @@ def once_in(start, *more):
     return calendar(['BEGIN:VEVENT', 'UID:0@example.org', 'DTSTART:' + start, *more, 'END:VEVENT'])
 
 
-def removed_periods():
-    """Days since 1900, and 230 PERIODs of a hundred years, 25 days apart, that EXDATEs remove."""
+def removed_periods(duration='P1D'):
+    """Days since 1900 that last so long, and 230 PERIODs of a hundred years, 25 days apart, that EXDATEs remove."""
     at = [(datetime.date(1990, 1, 1) + datetime.timedelta(25 * number)).strftime('%Y%m%dT000000') for number in range(230)]
-    return once_in('19000101T000000', 'RRULE:FREQ=DAILY', 'DURATION:P1D', 'RDATE;VALUE=PERIOD:' + ','.join(each + '/P36525D' for each in at),
+    return once_in('19000101T000000', 'RRULE:FREQ=DAILY', 'DURATION:' + duration, 'RDATE;VALUE=PERIOD:' + ','.join(each + '/P36525D' for each in at),
                    'EXDATE:' + ','.join(at))
+
+
+def begun_periods(count, parts):
+    """Days since 2020 in a time zone of these observances, and so many PERIODs of a hundred years that begin there in December 2023."""
+    at = ','.join('202312%02dT%02d%02d00/P5217W' % (number % 28 + 1, number % 24, number % 60) for number in range(count))
+    return calendar([*zone('odd', *parts), 'BEGIN:VEVENT', 'UID:0@example.org', 'DTSTART;TZID=odd:20200101T120000', 'RRULE:FREQ=DAILY',
+                     'RDATE;VALUE=PERIOD;TZID=odd:' + at, 'END:VEVENT'])
 
 
 def yearly_since(count, parts):
@@ -433,6 +440,10 @@ ROWS = [
      ['2024-01-01', '3660d', '--every-day', *NEW_YORK], 8, 32),
     ('230 PERIODs of a hundred years that exceptions remove from days since 1900, each day of a hundred years by the clock of New York', removed_periods,
      ['2024-01-01', '36525d', '--every-day', *NEW_YORK], 37, 32),
+    ('230 PERIODs of a hundred years that exceptions remove from days of 25 hours, each day of a thousand years', lambda: removed_periods('P1DT1H'),
+     ['1924-06-01', '366000d', '--every-day'], 8, 32),
+    ('150 PERIODs of a hundred years that have begun in a time zone of 60 daily observances, left out of each day of a hundred years',
+     lambda: begun_periods(150, offset_each(60, 24)), ['2024-01-02', '36525d', '--every-day', '--notstarted'], 24, 32),
     ('450 further dates since 1700 behind a PERIOD of ages, each day of a hundred years by the clock of New York',
      lambda: once_in('16990101T000000', 'RDATE;VALUE=PERIOD:16990102T000000/97900101T000000',
                      'RDATE:' + ','.join('%d%02d01T120000' % (year, month) for year in range(1700, 2000, 8) for month in range(1, 13))),
