@@ -633,6 +633,18 @@ impl<'a> Series<'a> {
         listed.min(rule_quiet(&self.rule_starts, mark))
     }
 
+    /// The same, but no later than an instant. Where that is not past the window's end, neither the rule nor a clock is asked.
+    pub fn quiet_up_to(&self, most: Moment, mark: &mut Option<Mark>) -> Moment
+        ensures to { IsQuietTo (clocks_in self.now.zones) self.now.event.now self.now.window self.now.since result }
+        ensures most { result ≤ℤ most }
+        ensures mark { IsMarkOf self.now.event.now mark.old → IsMarkOf self.now.event.now mark.new }
+    {
+        if most <= self.window.to {
+            return most;
+        }
+        self.quiet(mark).min(most)
+    }
+
     /// Passes over locals that the rule need not be read for, since what they give is removed or has ended.
     fn skip(&mut self)
         ensures coming { series_of self.new (series_left self.new) ≡ series_of self.old (series_left self.old) }

@@ -1,5 +1,5 @@
 use Rattle.std.proofs.Common.{◌≡◌, ◌∙◌, ◌≤ℤ◌, ◌<ℤ◌, [], None, Option, Vec, Global, ap, inr, arith, map, refl, rules, sym, subst, to_z, of_z, w64, pos}
-use Rattle.std.proofs.lemmas.Int.{int_max_is, int_min_is, ints}
+use Rattle.std.proofs.lemmas.Int.{int_max_is, ints}
 use Rattle.ics_event.specs.declared.event.Event.{Event}
 use Rattle.ics_series.specs.Inner.Ended.{IsMasterAt}
 use Rattle.ics_series.specs.Inner.Kept.{IsPartOf}
@@ -16,7 +16,7 @@ use Rattle.ics_starts.specs.declared.series.Series.{Series}
 use Rattle.ics_series.proofs.GapLemmas.{moved-others}
 use Rattle.ics_series.proofs.OverLemmas.{marks-over, over-still, stay_none}
 use Rattle.ics_series.proofs.masters.move_off.Goals as goal
-use Rattle.ics_series.proofs.masters.move_off.Goals.{then-quiet-least, else-quiet-least}
+use Rattle.ics_series.proofs.masters.move_off.Goals.{then-is_some, else-is_some}
 
 pub returns-clause-spans : goal.returns-clause-spans
 returns-clause-spans c =
@@ -24,7 +24,7 @@ returns-clause-spans c =
     let series = ended.series.value in
     let event = series.event.now in
     let first = first_at c.args.spans.now.items ended.place in
-    let fits : to_z w64 (of_z w64 c.quiet-quiet.result) ≡ c.quiet-quiet.result = search rules in
+    let fits : to_z w64 (of_z w64 c.quiet_up_to.result) ≡ c.quiet_up_to.result = search rules in
     let least-fits : to_z w64 (of_z w64 c.args.least) ≡ c.args.least = search rules in
     let since-fits : to_z w64 (of_z w64 c.since.result) ≡ c.since.result = search rules in
     let first-fits : to_z w64 (of_z w64 c.first_at-begin.result) ≡ c.first_at-begin.result = search rules in
@@ -32,9 +32,7 @@ returns-clause-spans c =
     c.first_at-begin.ensures ∙ ap (λ xs. first_at xs ended.place) c.deref.ensures.value in
     let uid : c.as_slice.result.now ≡ c.args.ended.now.series.value.event.now.uid =
     c.as_slice.ensures ∙ (ap (λ (e : Event). e.uid) c.event.view_is ∙ ap (λ (e : Event). e.uid) (sym ended.own)) in
-    let value = c.min.ensures.value in
-    let quiet : to_z w64 (of_z w64 c.min.result) ≤ℤ c.quiet-quiet.result = omega (arith, ints, int_min_is, value, c.min.type_inv, fits, least-fits) in
-    let most : to_z w64 (of_z w64 c.min.result) ≤ℤ c.args.least = omega (arith, ints, int_min_is, value, c.min.type_inv, fits, least-fits) in
+    let most : to_z w64 (of_z w64 c.quiet_up_to.result) ≤ℤ c.args.least = omega (arith, ints, c.quiet_up_to.ensures.most, fits, least-fits) in
     let put : IsPutOff (clocks_in c.args.ended.now.series.value.zones) c.args.ended.now.series.value.event.now c.args.ended.now.series.value.window
     c.args.ended.now.series.value.since None [] c.args.spans.now.items c.args.ended.now.place c.put_span.new.spans.items =
     record {
@@ -44,13 +42,12 @@ returns-clause-spans c =
           let least : c.since.result ≤ℤ c.first_at-begin.result = omega (arith, ints, c.if-begin-since.false, since-fits, first-fits) in
           omega (arith, ints, int_max_is always.first first, least, since, begin);
       empty = refl;
-      span = record { first = to_z w64 (of_z w64 c.min.result); last = pos 9_223_372_036_854_775_807 };
+      span = record { first = to_z w64 (of_z w64 c.quiet_up_to.result); last = pos 9_223_372_036_854_775_807 };
       rest = record {
         last = refl;
-        first = λ o of end from.
-            let to = subst (λ (s : Series). IsQuietTo (clocks_in s.zones) s.event.now s.window s.since c.quiet-quiet.result) c.deref-3.ensures
-            c.quiet-quiet.ensures.to o of end from in
-            omega (arith, ints, quiet, to);
+        first = subst (IsQuietTo (clocks_in series.zones) event series.window series.since) (sym fits)
+            (subst (λ (s : Series). IsQuietTo (clocks_in s.zones) s.event.now s.window s.since c.quiet_up_to.result) c.deref-3.ensures
+            c.quiet_up_to.ensures.to);
       };
       put = c.put_span.ensures;
     } in
@@ -67,14 +64,14 @@ pub returns-clause-marks : goal.returns-clause-marks
 returns-clause-marks c =
     let ended = c.args.ended.now in
     let Stay = StayMarks c.args.versions.now (λ files display. IsPartOf files display (part.Series ended)) c.args.marks.now.items in
-    elim c.if-quiet-least.branch [
-      | then-quiet-least w ↦ subst Stay (sym (ap (λ (p : Vec (Option Mark) Global). p.items) w.marks-is)) (record {
+    elim c.if-is_some.branch [
+      | then-is_some w ↦ subst Stay (sym (ap (λ (p : Vec (Option Mark) Global). p.items) w.marks-is)) (record {
         still = λ files display chosen of are.
             let uid : c.as_slice.result.now ≡ c.args.ended.now.series.value.event.now.uid =
             c.as_slice.ensures ∙ (ap (λ (e : Event). e.uid) c.event.view_is ∙ ap (λ (e : Event). e.uid) (sym ended.own)) in
             let at = subst (IsMasterAt (map seen c.args.versions.now) ended.place) uid (c.is_master_at.ensures c.if-not-is_master_at.false) in
-            let mark = subst (λ (s : Series). IsMarkOf s.event.now c.quiet-quiet.new.mark) c.deref-3.ensures (c.quiet-quiet.ensures.mark tt) in
+            let mark = subst (λ (s : Series). IsMarkOf s.event.now c.quiet_up_to.new.mark) c.deref-3.ensures (c.quiet_up_to.ensures.mark tt) in
             marks-over chosen of at mark c.args.marks.now.items w.put_mark.new.marks.items w.put_mark.ensures are;
       })
-      | else-quiet-least w ↦ subst Stay (sym (ap (λ (p : Vec (Option Mark) Global). p.items) w.marks-is)) (stay_none c.args.marks.now.items)
+      | else-is_some w ↦ subst Stay (sym (ap (λ (p : Vec (Option Mark) Global). p.items) w.marks-is)) (stay_none c.args.marks.now.items)
     ]
