@@ -1,5 +1,5 @@
 -- The RDATEs at some places, those that are looked at.
-use Rattle.std.proofs.Common.{◌≡◌, ℕ, zero, suc, ◌+◌, ◌-◌, ◌<◌, ◌≤◌, ℤ, pos, ◌+ℤ◌, ◌-ℤ◌, ◌<ℤ◌, ◌≤ℤ◌, List, [], length, get_or, drop, Some}
+use Rattle.std.proofs.Common.{◌≡◌, ℕ, zero, suc, ◌+◌, ◌-◌, ◌<◌, ◌≤◌, ℤ, pos, ◌+ℤ◌, ◌-ℤ◌, ◌<ℤ◌, ◌≤ℤ◌, List, [], ◌∷◌, ◌++◌, length, get_or, drop, None, Some}
 use Rattle.std.proofs.Common.{Bool, true, false, not, ◌&&◌, ◌⊎◌, inl, inr, ⊎_elim, int_eq, int_le, slice_get, if◌then◌else◌, refl, sym, ◌∙◌, ap}
 use Rattle.std.proofs.Common.{subst, arith}
 use Rattle.std.specs.List.{list_any}
@@ -23,7 +23,7 @@ use Rattle.ics_starts.specs.Exclusions.{is_among, is_known}
 use Rattle.ics_starts.specs.FileZones.{clocks_in, is_early, is_past}
 use Rattle.ics_starts.specs.Found.{begins_at, counts, counts_since, is_over, is_running, listed_from, span_local, AreRunning}
 use Rattle.ics_starts.specs.Inner.ByLocal.{count_in, place_in, rdate_locals, AreCounting, AreKnown, AreSpansNear, AreUp, IsSpanNear}
-use Rattle.ics_starts.specs.Inner.ByLocal.{AreNext, HasSooner}
+use Rattle.ics_starts.specs.Inner.ByLocal.{AreEndedBy, AreNext, HasSooner, IsEndedBy}
 use Rattle.ics_starts.specs.Quiet.{IsAgain}
 use Rattle.ics_starts.specs.Starts.{given_by}
 use Rattle.ics_starts.specs.declared.by_local.Places.{Places}
@@ -54,6 +54,36 @@ pub record BeginsThere (clocks : Clocks) (w : Window) (event : Event) (t : ℤ) 
   pub within : k < count_in near
   pub stands : slice_get event.rdates (place_in near k) ≡ Some rdate
   pub begins : begins_at clocks w t (given_by event.start rdate) ≡ true
+
+-- a PERIOD that neither begins nor ends after a local does not after a later one
+pub ended-later : {local later : ℤ} (given : Rdate) → local ≤ℤ later → IsEndedBy local given → IsEndedBy later given
+ended-later (At time) l e = tt
+ended-later (Span start length) l e = (omega (arith, ints, l, e.0), omega (arith, ints, l, e.1))
+
+-- and is over, if that is six days before the window
+pub ended-over : (clocks : Clocks) (w : Window) (t : ℤ) (given : Rdate) → IsEndedBy (w.from -ℤ whole_days 6) given → begins_at clocks w t given ≡ false
+ended-over clocks w t (At time) e = refl
+ended-over clocks w t (Span start length) e =
+    rw (true_int_le (stamp_seconds start.stamp) (w.from -ℤ whole_days 6) e.0, true_int_le (span_local start length) (w.from -ℤ whole_days 6) e.1) refl
+
+-- what stands at a place behind one more stood there, or is that one
+pushed-at : (xs : List ℤ) (last other : ℤ) (k : ℕ) → slice_get (xs ++ (last ∷ [])) k ≡ Some other
+    → (slice_get xs k ≡ Some other) ⊎ ((k ≡ length xs) × (other ≡ last))
+pushed-at [] last other zero e = inr (refl, some-same other last (sym e))
+pushed-at [] last other (suc k) e = let f : None ≡ Some other = e in absurd cc
+pushed-at (x ∷ xs) last other zero e = inl e
+pushed-at (x ∷ xs) last other (suc k) e = ⊎_elim inl (λ p. inr (ap suc p.0, p.1)) (pushed-at xs last other k e)
+
+-- one RDATE more
+pub ended-more : (event : Event) {n : ℕ} (last : ℤ) (xs : List ℤ) {ys : List ℤ} (x : Rdate) → slice_get event.rdates n ≡ Some x
+    → IsEndedBy last (given_by event.start x) → length xs ≡ n → ys ≡ xs ++ (last ∷ []) → AreEndedBy event xs → AreEndedBy event ys
+ended-more event {n = n} last xs x there ended size is each = λ k rdate other stands at.
+    ⊎_elim (λ old. each k rdate other stands old)
+    (λ new.
+    let here : k ≡ n = new.0 ∙ size in
+    let same : x ≡ rdate = some-same x rdate (sym there ∙ (ap (slice_get event.rdates) (sym here) ∙ stands)) in
+    subst (λ t. IsEndedBy t (given_by event.start rdate)) (sym new.1) (subst (λ r. IsEndedBy last (given_by event.start r)) same ended))
+    (pushed-at xs last other k (ap (λ zs. slice_get zs k) (sym is) ∙ at))
 
 -- so it is, if one begins there at all, and all that do are near
 pub running-near : (clocks : Clocks) (w : Window) (t : ℤ) {event : Event} {near : Places} {by to : ℤ} → AreSpansNear event by to near

@@ -1,9 +1,12 @@
 //! The EXDATEs and RDATEs of an event in the order of their locals, so that those near a window are found without a look at each of them.
-ghost use Rattle.std.specs.Prelude.{◌≡◌, ◌<◌, ◌+ℤ◌, ◌-ℤ◌, ℤ, length, IfOk, List};
+ghost use Rattle.std.specs.Prelude.{◌≡◌, ◌<◌, ◌+ℤ◌, ◌-ℤ◌, ℤ, length, slice_get, true, IfOk, List, Some};
+ghost use Rattle.ics_event.specs.Event.{IsRdate, Rdate};
 ghost use Rattle.ics_fields.specs.Locals.{whole_days};
 ghost use Rattle.ics_zone.specs.Seconds.{IsMoment};
 ghost use Rattle.ics_starts.specs.Inner.ByLocal.{count_in, exdate_locals, place_in, rdate_locals, AreByLocal, AreLastingBy};
-ghost use Rattle.ics_starts.specs.Inner.ByLocal.{AreKnown, AreKnownOf, AreNearIn, AreNext, AreNextIn, AreSpansNear, HasDates};
+ghost use Rattle.ics_starts.specs.Inner.ByLocal.{AreKnown, AreKnownOf, AreNearIn, AreEndedBy, AreNext, AreNextIn, AreSpansNear, HasDates};
+ghost use Rattle.ics_starts.specs.Inner.ByLocal.{IsEndedBy};
+ghost use Rattle.ics_starts.specs.Starts.{given_by};
 
 use crate::instants::TWO_DAYS;
 use crate::listed::{given_by, span_local};
@@ -60,6 +63,8 @@ pub(crate) struct DatesByLocal {
     rdates: Vec<PlacedLocal>,
     /// No PERIOD's local end is more seconds after its local start.
     longest: i64,
+    /// For each RDATE a local after which it neither begins nor ends, if it is a PERIOD.
+    lasts: Vec<Moment>,
 }
 
 impl DatesByLocal {
@@ -74,6 +79,7 @@ impl DatesByLocal {
             exdates: exdates_by_local(alloc, event)?,
             rdates: rdates_by_local(alloc, event)?,
             longest: longest(event),
+            lasts: lasts(alloc, event)?,
         };
         Ok(Some(Box::new(alloc, dates)?))
     }
@@ -118,6 +124,45 @@ fn longest(event: &Event) -> i64
         }
     }
     most
+}
+
+/// A local after which what starts an event neither begins nor ends, if it is a PERIOD.
+fn last_of(given: Rdate) -> Moment
+    requires { IsRdate given }
+    ensures { IsEndedBy result given }
+{
+    match given {
+        Rdate::At(_) => Moment::MIN,
+        Rdate::Span(start, length) => {
+            let local = local_of(start.stamp).seconds();
+            local.max(span_local(start, length))
+        }
+    }
+}
+
+/// The same of each RDATE of an event.
+fn lasts(alloc: Global, event: &Event) -> Result<Vec<Moment>, AllocError>
+    ensures { IfOk result (λ lasts. AreEndedBy event.now lasts.items) }
+{
+    let mut lasts = Vec::new(alloc);
+    for rdate in &event.rdates {
+        lasts.push(last_of(given_by(event.start, *rdate)))?;
+    }
+    Ok(lasts)
+}
+
+/// Whether an RDATE is known to be a PERIOD that neither begins nor ends after a local, or none.
+pub(crate) fn has_ended(dates: &Option<Box<DatesByLocal>>, place: usize, by: Moment) -> bool
+    ensures { (event : Event) (rdate : Rdate) → HasDates event dates.now → result ≡ true → slice_get event.rdates place ≡ Some rdate
+        → IsEndedBy by (given_by event.start rdate) }
+{
+    let Some(dates) = dates else {
+        return false;
+    };
+    match dates.lasts.get(place) {
+        None => false,
+        Some(last) => *last <= by,
+    }
 }
 
 /// Those of some places whose locals are from one on and before another.

@@ -18,7 +18,9 @@ ghost use Rattle.ics_listing.specs.StartTimes.{time_of};
 ghost use Rattle.ics_listing.specs.WindowBounds.{lasts_most, occurrence_first};
 ghost use Rattle.ics_zone.specs.Seconds.{IsMoment};
 
-use crate::by_local::{DatesByLocal, Places, near_rdates, near_spans, next_rdates, or_all};
+use crate::by_local::{
+    DatesByLocal, Places, has_ended, near_rdates, near_spans, next_rdates, or_all,
+};
 use crate::clock_stretch::{ClockStretches, instant_by};
 use crate::exclusion::is_among;
 use crate::instants::{TWO_DAYS, instant, is_early, is_outside};
@@ -124,13 +126,18 @@ pub(crate) fn running(
     if from <= since {
         return Ok(running);
     }
-    let near = near_spans(dates, event, window.from - OVER, from + TWO_DAYS);
+    let by = window.from - OVER;
+    let near = near_spans(dates, event, by, from + TWO_DAYS);
     for k in 0..near.count() {
+        let place = near.at(k);
+        if has_ended(dates, place, by) {
+            continue;
+        }
         push_running(
             &mut running,
             zones,
             known,
-            given_by(event.start, event.rdates[near.at(k)]),
+            given_by(event.start, event.rdates[place]),
             window,
             since,
             from,

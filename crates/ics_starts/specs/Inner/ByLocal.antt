@@ -129,6 +129,16 @@ abbrev pub IsLastingBy : ℤ → Rdate → Type 0
 IsLastingBy seconds (At time) = Unit {0}
 IsLastingBy seconds (Span start length) = span_local start length ≤ℤ (local_in start +ℤ seconds)
 
+-- a PERIOD neither begins nor ends after a local
+abbrev pub IsEndedBy : ℤ → Rdate → Type 0
+IsEndedBy local (At time) = Unit {0}
+IsEndedBy local (Span start length) = (local_in start ≤ℤ local) × (span_local start length ≤ℤ local)
+
+-- it is so of each RDATE for which there is a local
+abbrev pub AreEndedBy : Event → List ℤ → Type 0
+AreEndedBy event lasts = (k : ℕ) (rdate : Rdate) (last : ℤ) → slice_get event.rdates k ≡ Some rdate → slice_get lasts k ≡ Some last
+    → IsEndedBy last (given_by event.start rdate)
+
 pub record AreLastingBy (event : Event) (seconds : ℤ) : Type 0 where
   pub least : pos 0 ≤ℤ seconds
   pub most : seconds ≤ℤ pos 1_000_000_000_000
@@ -156,6 +166,7 @@ pub record AreDatesOf (event : Event) (dates : DatesByLocal) : Type 0 where
   pub exdates : AreByLocal (exdate_locals event) dates.exdates.items
   pub rdates : AreByLocal (rdate_locals event) dates.rdates.items
   pub longest : AreLastingBy event dates.longest
+  pub lasts : AreEndedBy event dates.lasts.items
 
 abbrev pub HasDates : Event → Option (Box DatesByLocal) → Type 0
 HasDates event None = Unit {0}
@@ -171,6 +182,13 @@ lasting-by-prop seconds (Span start length) = hlevel props
 lasting-prop : (event : Event) (seconds : ℤ) → IsProp (AreLastingBy event seconds)
 lasting-prop event seconds = hlevel (props, lasting-by-prop)
 
+ended-by-prop : (local : ℤ) (rdate : Rdate) → IsProp (IsEndedBy local rdate)
+ended-by-prop local (At time) = Unit-prop
+ended-by-prop local (Span start length) = hlevel props
+
+ended-prop : (event : Event) (lasts : List ℤ) → IsProp (AreEndedBy event lasts)
+ended-prop event lasts = hlevel (props, ended-by-prop)
+
 pub dates-prop : (event : Event) (dates : Option (Box DatesByLocal)) → IsProp (HasDates event dates)
 dates-prop event None = Unit-prop
-dates-prop event (Some dates) = hlevel (props, by-local-prop, lasting-prop)
+dates-prop event (Some dates) = hlevel (props, by-local-prop, lasting-prop, ended-prop)

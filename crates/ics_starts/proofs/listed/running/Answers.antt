@@ -1,4 +1,5 @@
-use Rattle.std.proofs.Common.{◌≡◌, ◌<◌, ◌<ℤ◌, ◌≤ℤ◌, ◌||◌, ℤ, Some, inl, inr, ⊎_elim, refl, sym, ◌∙◌, ap, subst, arith, slice_get, int_eq, to_z, of_z, w64}
+use Rattle.ics_fields.specs.Locals.{whole_days}
+use Rattle.std.proofs.Common.{◌≡◌, ◌-ℤ◌, pos, true, false, ◌<◌, ◌<ℤ◌, ◌≤ℤ◌, ◌||◌, ℤ, Some, inl, inr, ⊎_elim, refl, sym, ◌∙◌, ap, subst, arith, slice_get, int_eq, to_z, of_z, w64}
 use Rattle.std.proofs.lemmas.Bool.{cases_lt, or_cases, or_left, or_right}
 use Rattle.std.proofs.lemmas.Int.{ints}
 use Rattle.std.proofs.lemmas.List.Sorted.{list_any-IsPermutation}
@@ -13,9 +14,9 @@ use Rattle.ics_period.proofs.Tests.{iff}
 use Rattle.ics_starts.specs.Exclusions.{is_among}
 use Rattle.ics_starts.specs.FileZones.{clocks_in, IsTimeOf}
 use Rattle.ics_starts.specs.Found.{begins_at, is_running}
-use Rattle.ics_starts.specs.Inner.ByLocal.{count_in, place_in}
+use Rattle.ics_starts.specs.Inner.ByLocal.{count_in, place_in, IsEndedBy}
 use Rattle.ics_starts.specs.Starts.{given_by}
-use Rattle.ics_starts.proofs.NearLemmas.{running-near, span-near, value-at}
+use Rattle.ics_starts.proofs.NearLemmas.{ended-over, running-near, span-near, value-at}
 use Rattle.ics_starts.proofs.StartSourceLemmas.{given-value}
 use Rattle.ics_starts.proofs.ZoneLemmas.{given-time}
 use Rattle.ics_starts.proofs.listed.running.Goals as goal
@@ -28,7 +29,7 @@ push_running-requires-clause-value c =
     let r = c.index.result.now in
     let below : k < count_in near = subst (λ n. k < n) c.count-k-end.ensures c.loop-k-test.true in
     let there : slice_get event.rdates (place_in near k) ≡ Some r =
-    value-at (ap (λ (v : Event). v.rdates) c.event.view_is) c.at.ensures (c.near_spans-near.ensures.within k below) c.index.ensures in
+    value-at (ap (λ (v : Event). v.rdates) c.event.view_is) c.at-place.ensures (c.near_spans-near.ensures.within k below) c.index.ensures in
     let given : c.given_by.result ≡ given_by event.start r = c.given_by.ensures ∙ ap (λ (v : Event). given_by v.start r) c.event.view_is in
     subst IsRdate (sym given)
     (given-value event.start event.start.stamp r c.requires.event.is_event.start
@@ -42,10 +43,36 @@ push_running-requires-clause-time c =
     let r = c.index.result.now in
     let below : k < count_in near = subst (λ n. k < n) c.count-k-end.ensures c.loop-k-test.true in
     let there : slice_get event.rdates (place_in near k) ≡ Some r =
-    value-at (ap (λ (v : Event). v.rdates) c.event.view_is) c.at.ensures (c.near_spans-near.ensures.within k below) c.index.ensures in
+    value-at (ap (λ (v : Event). v.rdates) c.event.view_is) c.at-place.ensures (c.near_spans-near.ensures.within k below) c.index.ensures in
     let given : c.given_by.result ≡ given_by event.start r = c.given_by.ensures ∙ ap (λ (v : Event). given_by v.start r) c.event.view_is in
     subst (λ v. IsTimeOf c.args.zones.zones.now (time_of v)) (sym given)
     (given-time c.args.zones event (Listed (place_in near k)) (given_by event.start r) c.requires.event (r, there, refl))
+
+pub loop-k-preserved-then-has_ended : goal.loop-k-preserved-then-has_ended
+loop-k-preserved-then-has_ended c =
+    let event = c.args.event.now in
+    let clocks = clocks_in c.args.zones in
+    let w = c.args.window.now in
+    let near = c.near_spans-near.result in
+    let k = c.loop-k.k in
+    let by : to_z w64 (of_z w64 (to_z w64 (of_z w64 w.from) -ℤ pos 518_400)) ≡ w.from -ℤ whole_days 6 =
+    omega (arith, ints, w.not_early, w.ordered, w.not_late) in
+    record {
+      known = c.loop-k.invariant.known;
+      only = c.loop-k.invariant.only;
+      all = λ t j rdate on early l stands e.
+          elim (cases_lt j k) [
+            | inl behind ↦ c.loop-k.invariant.all t j rdate on early behind stands e
+            | inr after ↦
+                let here : k ≡ j = omega (arith, after, l) in
+                let there : slice_get event.rdates c.at-place.result ≡ Some rdate =
+                ap (slice_get event.rdates) c.at-place.ensures ∙ (ap (λ n. slice_get event.rdates (place_in near n)) here ∙ stands) in
+                let ended = subst (λ t. IsEndedBy t (given_by event.start rdate)) by
+                (c.has_ended.ensures event rdate c.requires.dates c.if-has_ended.true there) in
+                let f : false ≡ true = sym (ended-over clocks w t (given_by event.start rdate) ended) ∙ e in
+                absurd cc
+          ];
+    }
 
 pub loop-k-preserved : goal.loop-k-preserved
 loop-k-preserved c =
@@ -57,7 +84,7 @@ loop-k-preserved c =
     let r = c.index.result.now in
     let below : k < count_in near = subst (λ n. k < n) c.count-k-end.ensures c.loop-k-test.true in
     let there : slice_get event.rdates (place_in near k) ≡ Some r =
-    value-at (ap (λ (v : Event). v.rdates) c.event.view_is) c.at.ensures (c.near_spans-near.ensures.within k below) c.index.ensures in
+    value-at (ap (λ (v : Event). v.rdates) c.event.view_is) c.at-place.ensures (c.near_spans-near.ensures.within k below) c.index.ensures in
     let given : c.given_by.result ≡ given_by event.start r = c.given_by.ensures ∙ ap (λ (v : Event). given_by v.start r) c.event.view_is in
     let before = c.loop-k.running.items in
     let more : (t : ℤ) → c.args.since ≤ℤ t → t <ℤ c.args.from → is_among c.push_running.new.running.items t ≡ (is_among before t || begins_at clocks w t (given_by event.start r)) =
