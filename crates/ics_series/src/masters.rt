@@ -154,7 +154,8 @@ pub(crate) fn is_far(spans: &[Span], place: usize, moment: Moment) -> bool {
 }
 
 /// Moves on the span at the place of a series with nothing to come, up to the least start of what lasts. It is left where that is not later, the
-/// place is not a near one of its version, or the series begins later than the span. The mark is moved on too, if the series tells one. It is apart from the end of a day, on most of which nothing recurs.
+/// place is not a near one of its version, or the series begins later than the span. The mark is moved on too, if the series tells one. It is apart
+/// from the end of a day, on most of which nothing recurs.
 #[inline(never)]
 #[tactic(auto, using(crate::proofs::OverLemmas::moved_none, crate::proofs::OverLemmas::stay_none))]
 pub(crate) fn move_off(

@@ -253,7 +253,8 @@ module _ (zones : FileZones) (w : Window) where
             let near = instant-near zones t in
             record {
               t = moment;
-              known = or_right (int_le from moment) (is_among running moment) (are moment (int_le_true since moment parts.0) (omega (arith, ints, before, near)) ∙ h);
+              known = or_right (int_le from moment) (is_among running moment)
+                  (are moment (int_le_true since moment parts.0) (omega (arith, ints, before, near)) ∙ h);
               early = omega (arith, ints, before, near, soon);
               low = omega (arith, ints, near);
               high = omega (arith, ints, near);

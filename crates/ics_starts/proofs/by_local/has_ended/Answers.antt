@@ -15,7 +15,8 @@ returns-in-Some-get c = λ event rdate has told stands.
     let items : c.deref-2.result.now ≡ c.in-Some.dates.value.lasts.items =
     c.deref-2.ensures.value ∙ ap (λ (d : DatesByLocal). d.lasts.items) c.deref.ensures in
     let there : slice_get c.in-Some.dates.value.lasts.items c.args.place ≡ Some last = subst (λ (xs : List ℤ). slice_get xs c.args.place ≡ Some last) items
-    (slice_get_read c.deref-2.result.now (length c.deref-2.result.now) c.args.place last refl c.in-Some-get.ensures.lookup.3.0 c.in-Some-get.ensures.lookup.1) in
+    (slice_get_read c.deref-2.result.now (length c.deref-2.result.now) c.args.place last refl c.in-Some-get.ensures.lookup.3.0
+    c.in-Some-get.ensures.lookup.1) in
     let before = int_le_true (to_z w64 (of_z w64 last)) (to_z w64 (of_z w64 c.args.by)) told in
     let by : to_z w64 (of_z w64 c.args.by) ≡ c.args.by = search rules in
     let same : to_z w64 (of_z w64 last) ≡ last = search rules in

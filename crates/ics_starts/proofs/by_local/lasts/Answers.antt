@@ -40,5 +40,6 @@ loop-rdate-preserved c =
     record {
       size = ap (λ (xs : List ℤ). length xs) pushed ∙ (length-append c.loop-rdate.lasts.items (to_z w64 (of_z w64 c.last_of.result) ∷ [])
           ∙ ap (λ m. m + 1) c.loop-rdate.invariant.size);
-      each = ended-more event (to_z w64 (of_z w64 c.last_of.result)) c.loop-rdate.lasts.items x there last c.loop-rdate.invariant.size pushed c.loop-rdate.invariant.each;
+      each = ended-more event (to_z w64 (of_z w64 c.last_of.result)) c.loop-rdate.lasts.items x there last c.loop-rdate.invariant.size pushed
+          c.loop-rdate.invariant.each;
     }

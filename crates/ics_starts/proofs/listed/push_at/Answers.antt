@@ -174,5 +174,6 @@ returns-clause-starts c =
     sym (append-nil c.loop-k.starts.items)
     ∙ (sym (ap (λ (xs : List Start). c.loop-k.starts.items ++ xs) none)
     ∙ (c.loop-k.invariant.starts
-    ∙ both-back (λ s f. c.args.starts.now.items ++ listed_from clocks w (to_z w64 (of_z w64 c.args.since)) (to_z w64 (of_z w64 c.args.from)) event 0 event.rdates
+    ∙ both-back (λ s f. c.args.starts.now.items
+    ++ listed_from clocks w (to_z w64 (of_z w64 c.args.since)) (to_z w64 (of_z w64 c.args.from)) event 0 event.rdates
     ≡ c.args.starts.now.items ++ listed_from clocks w s f event 0 event.rdates) begin back refl))

@@ -41,7 +41,8 @@ returns-in_ok-push-clause-running c =
     let begins : begins_at clocks w t c.args.given ≡ int_eq (instant clocks start) t =
     ap (begins_at clocks w t) c.in-Span.is
     ∙ ap (λ b. not b && int_eq (instant clocks start) t) (sym c.is_over.ensures ∙ c.if-not-is_over.true) in
-    let moment : to_z w64 (of_z w64 c.instant_by-moment.result) ≡ instant clocks start = moment-back c.instant_by-moment.result c.instant_by-moment.type_inv ∙ c.instant_by-moment.ensures.instant in
+    let moment : to_z w64 (of_z w64 c.instant_by-moment.result) ≡ instant clocks start =
+    moment-back c.instant_by-moment.result c.instant_by-moment.type_inv ∙ c.instant_by-moment.ensures.instant in
     ap (λ xs. is_among xs t) c.in_ok-push.ensures.items
     ∙ (one-more before (to_z w64 (of_z w64 c.instant_by-moment.result)) t
     ∙ (ap (λ m. is_among before t || int_eq m t) moment ∙ ap (λ b. is_among before t || b) (sym begins)))

@@ -1,5 +1,6 @@
 use Rattle.ics_fields.specs.Locals.{whole_days}
-use Rattle.std.proofs.Common.{◌≡◌, ◌-ℤ◌, pos, true, false, ◌<◌, ◌<ℤ◌, ◌≤ℤ◌, ◌||◌, ℤ, Some, inl, inr, ⊎_elim, refl, sym, ◌∙◌, ap, subst, arith, slice_get, int_eq, to_z, of_z, w64}
+use Rattle.std.proofs.Common.{◌≡◌, ◌-ℤ◌, pos, true, false, ◌<◌, ◌<ℤ◌, ◌≤ℤ◌, ◌||◌, ℤ, Some, inl, inr, ⊎_elim, refl, sym, ◌∙◌, ap, subst}
+use Rattle.std.proofs.Common.{arith, slice_get, int_eq, to_z, of_z, w64}
 use Rattle.std.proofs.lemmas.Bool.{cases_lt, or_cases, or_left, or_right}
 use Rattle.std.proofs.lemmas.Int.{ints}
 use Rattle.std.proofs.lemmas.List.Sorted.{list_any-IsPermutation}
@@ -87,7 +88,8 @@ loop-k-preserved c =
     value-at (ap (λ (v : Event). v.rdates) c.event.view_is) c.at-place.ensures (c.near_spans-near.ensures.within k below) c.index.ensures in
     let given : c.given_by.result ≡ given_by event.start r = c.given_by.ensures ∙ ap (λ (v : Event). given_by v.start r) c.event.view_is in
     let before = c.loop-k.running.items in
-    let more : (t : ℤ) → c.args.since ≤ℤ t → t <ℤ c.args.from → is_among c.push_running.new.running.items t ≡ (is_among before t || begins_at clocks w t (given_by event.start r)) =
+    let more : (t : ℤ) → c.args.since ≤ℤ t → t <ℤ c.args.from → is_among c.push_running.new.running.items t
+    ≡ (is_among before t || begins_at clocks w t (given_by event.start r)) =
     λ t on early. c.in_ok-push_running.ensures.running t (omega (arith, ints, on, c.ranges.since)) (omega (arith, ints, early, c.ranges.from))
     ∙ ap (λ v. is_among before t || begins_at clocks w t v) given in
     record {
