@@ -110,6 +110,7 @@ fn lets_week(parts: &EffectiveRule, fields: &Civil, index: u32) -> bool
 }
 
 /// Whether each part that restricts the date allows a day, given with its fields.
+#[inline(always)]
 pub(crate) fn lets_fields(parts: &EffectiveRule, fields: &Civil, index: u32) -> bool
     requires day { index ≤ day_before 9_999 }
     requires fields { IsCivilOf fields.now index }

@@ -7,6 +7,7 @@ mod effective;
 mod effective_rule;
 mod kind;
 mod laws;
+mod left_out;
 mod members;
 mod near_days;
 mod part;
@@ -25,6 +26,7 @@ pub use effective::{
 pub use effective_rule::EffectiveRule;
 pub use kind::Kind;
 pub use laws::{numbered_weeks, ranks_are_places, weeks_from_monday, weeks_of_a_year};
+pub use left_out::{days_left_out, days_of_closed_month};
 pub use members::{Members, members_below};
 pub use near_days::{NearDays, lists_days};
 pub use part::{PlacesPart, WeekdaysPart};

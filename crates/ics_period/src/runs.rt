@@ -20,7 +20,7 @@ pub struct Run {
 }
 
 /// The numbers from 1 to `size` that a part lists, counted from the start or from the end.
-fn listed(places: &Ordinals, size: u8) -> BitSet
+pub(crate) fn listed(places: &Ordinals, size: u8) -> BitSet
     requires { size < 60 }
     ensures { (n : ℕ) → 1 ≤ n → contains result n ≡ (nat_le n size && lists places.now n size) }
 {

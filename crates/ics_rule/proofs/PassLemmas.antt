@@ -61,11 +61,7 @@ timed_open q {first = first} {step = step} out some stepped none = record {
     own : (first ≤ step) × ((step - first) % i ≡ 0)
     own = stepped_parts first i step stepped
 
--- one more number is left out
-pub one_out : (f : ℕ → Bool) (e : ℕ) {k : ℕ} → f e ≡ false → ((j : ℕ) → j < k → f (e + j) ≡ false) → (j : ℕ) → j < max k 1 → f (e + j) ≡ false
-one_out f e here none j h = grind arith
-
--- and a walk over them goes on
+-- a walk over what is left out goes on
 pub out_on : (f : ℕ → Bool) {from e k : ℕ} → ((m : ℕ) → from ≤ m → m < e → f m ≡ false) → ((j : ℕ) → j < k → f (e + j) ≡ false) → (m : ℕ) → from ≤ m →
     m < e + k → f m ≡ false
 out_on f {e = e} before none m l h = let rest = none (m - e) in grind (arith, cases_lt)

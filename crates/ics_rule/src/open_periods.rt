@@ -11,13 +11,13 @@ ghost use Rattle.ics_period.specs.PeriodNumbers.{rules_end};
 use crate::cursor::{Cursor, RULES_END};
 use crate::each_day::{goes_by_rounds, lets_few, open_of_each, open_of_rounds};
 use crate::never::size_of_open;
-use crate::pass::{days_of_closed_month, next_open_day, next_open_second};
+use crate::pass::{next_open_day, next_open_second};
 use crate::rounds::{calendar_round, seconds_of};
 use crate::search::Search;
 use crate::walk::next_step;
 use ics_period::{
-    EffectiveRule, NearDays, lets, lets_date, listed_below, lists_days, members_below, period_of,
-    skips_hours, skips_minutes, skips_seconds,
+    EffectiveRule, NearDays, days_of_closed_month, lets, lets_date, listed_below, lists_days,
+    members_below, period_of, skips_hours, skips_minutes, skips_seconds,
 };
 
 /// Whether the parts allow the hour, minute and second of a period, as far as the period has them; `n` is its first local.

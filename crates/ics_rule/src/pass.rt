@@ -12,26 +12,9 @@ use crate::search::Search;
 use crate::walk::next_step;
 use ics_fields::Frequency;
 use ics_period::{
-    EffectiveRule, NearDays, RecurrencePeriod, civil_at, clock_set, first_local, lets, lets_date,
-    lists_days, month_length, next_second, period_of, skips_hours, steps_out,
+    EffectiveRule, NearDays, RecurrencePeriod, clock_set, days_left_out, days_of_closed_month,
+    first_local, lists_days, next_second, period_of, skips_hours, steps_out,
 };
-
-/// How many days from one on are in a month that BYMONTH does not allow.
-pub(crate) fn days_of_closed_month(parts: &EffectiveRule, day: u32) -> u32
-    requires { day ≤ day_before 9_999 }
-    ensures none { (j : ℕ) → j < result → lets_date parts.now (day + j) ≡ false }
-    ensures most { result ≤ 32 }
-{
-    if parts.months.is_empty() {
-        return 0;
-    }
-    let fields = civil_at(day);
-    if lets(parts.months, fields.month) {
-        0
-    } else {
-        u32::from(month_length(&fields) + 1 - fields.day)
-    }
-}
 
 /// How many days from one on a rule does not allow, as far as one look tells. Single days are tested only if `by_days`.
 #[inline]
@@ -41,13 +24,10 @@ fn days_out(parts: &EffectiveRule, day: u32, by_days: bool) -> u32
     ensures some { by_days ≡ true → result ≡ 0 → lets_date parts.now day ≡ true }
     ensures most { result ≤ 32 }
 {
-    if !by_days {
-        return days_of_closed_month(parts, day);
-    }
-    if lets_date(parts, day) {
-        0
+    if by_days {
+        days_left_out(parts, day)
     } else {
-        days_of_closed_month(parts, day).max(1)
+        days_of_closed_month(parts, day)
     }
 }
 

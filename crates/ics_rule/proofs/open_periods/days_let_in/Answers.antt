@@ -4,7 +4,7 @@ use Rattle.std.proofs.lemmas.Bool.Decides.{nat_tests}
 use Rattle.std.proofs.lemmas.Nat.{mod-mul-add}
 use Rattle.ics_period.proofs.IntervalLemmas.{stepped_shown}
 use Rattle.ics_period.proofs.Counts.{count_most}
-use Rattle.ics_rule.proofs.PassLemmas.{one_out}
+use Rattle.ics_period.proofs.DayWalkLemmas.{one_out}
 use Rattle.ics_period.proofs.StepWalks.{walk_first, walk_small, walk_on, walk_past, walk_done, none_stepped}
 use Rattle.ics_rule.proofs.open_periods.days_let_in.Goals as goal
 

@@ -7,7 +7,7 @@ use Rattle.ics_rule.specs.Inner.Rounds.{seconds_of}
 use Rattle.ics_rule.specs.Inner.OpenPeriods.{lets_own, is_timely}
 use Rattle.ics_period.proofs.StepWalks.{walk_first, walk_small, walk_on, walk_past, walk_done}
 use Rattle.ics_rule.proofs.OpenLemmas.{own_second}
-use Rattle.ics_rule.proofs.PassLemmas.{one_out}
+use Rattle.ics_period.proofs.DayWalkLemmas.{one_out}
 use Rattle.ics_rule.proofs.open_periods.steps_let_in.Goals as goal
 
 -- whether the parts allow a period, where the seconds of one are known

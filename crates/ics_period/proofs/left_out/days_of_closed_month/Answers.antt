@@ -1,6 +1,6 @@
 use Rattle.std.proofs.Common.{◌∙◌, sym, arith}
 use Rattle.ics_period.proofs.DayWalkLemmas.{month_out}
-use Rattle.ics_rule.proofs.pass.days_of_closed_month.Goals as goal
+use Rattle.ics_period.proofs.left_out.days_of_closed_month.Goals as goal
 
 pub returns-else-lets-clause-none : goal.returns-else-lets-clause-none
 returns-else-lets-clause-none c = λ j h. month_out c.args.parts.now j c.civil_at-fields.ensures
