@@ -36,7 +36,7 @@ use ics_event::{Event, Time};
 use ics_fields::Frequency;
 use ics_listing::{Queue, Start, Waiting, Window, local_of, time_at};
 use ics_rule::{Cursor, Rule};
-use ics_values::{Local, Moment, Stamp};
+use ics_values::{Local, Moment, Stamp, is_zoned};
 use ics_zone::{Bounds, Spans, Stretch};
 use std::alloc::{AllocError, Global};
 
@@ -451,10 +451,11 @@ impl<'a> RuleStarts<'a> {
     }
 
     /// Whether the clock is asked for a stretch about a local that the rule keeps next, given by its seconds: it is past the known one, and kept locals
-    /// follow each other closely on its day.
+    /// follow each other closely on its day, of which one was read.
     fn asks_at(&self, local: Moment) -> bool {
-        let is_close = self.day < self.asked && local < self.next + CLOSE;
-        is_close && self.stretch.to <= local
+        let midnight = (i64::from(self.day) + 1) * DAY;
+        let is_read = self.day < self.asked && local < midnight;
+        is_read && local < self.next + CLOSE && self.stretch.to <= local
     }
 
     /// Reads up to the next kept local but, if a start is held, not past the end of the day.
@@ -882,8 +883,9 @@ impl<'a> RuleStarts<'a> {
         settled_from(stretch, self.bounds.most, first)
     }
 
-    /// The stretch that is known or, where that does not hold a local, given by its seconds, the one about it that the clock tells. The clock
-    /// is not asked where its offsets are no further apart than the local is from the beginning of its day: by each of them it is that day.
+    /// The stretch that is known or, where that does not hold a local, given by its seconds, the one about it that the display clock tells. The clock
+    /// is not asked where its offsets are no further apart than the local is from the beginning of its day: by each of them it is that day. Nor is a
+    /// zone of the file, since a stretch of one that changes its clock many times a day takes long.
     fn stretch_about(&self, local: Moment) -> Stretch
         requires { IsMoment local }
         ensures { IsStretched (clock_of (clocks_in self.now.zones) self.now.event.now.start) result }
@@ -891,7 +893,8 @@ impl<'a> RuleStarts<'a> {
         let event = self.event;
         let apart = self.bounds.most - self.bounds.least;
         let time = local.saturating_add(EPOCH) % DAY;
-        if apart <= time || is_in(self.stretch, local) {
+        let zoned = is_zoned(event.start.stamp);
+        if zoned || apart <= time || is_in(self.stretch, local) {
             return self.stretch;
         }
         stretch(self.zones, event.start, local)

@@ -3,5 +3,5 @@ use Rattle.std.proofs.lemmas.Int.{ints}
 use Rattle.ics_starts.proofs.RuleStepLemmas.{next-years}
 use Rattle.ics_starts.proofs.rule_starts.RuleStarts.asks_at.Goals as goal
 
-pub overflow_add-is_close : goal.overflow_add-is_close
-overflow_add-is_close c = omega (arith, ints, next-years c.args.self.now)
+pub overflow_add-self : goal.overflow_add-self
+overflow_add-self c = omega (arith, ints, next-years c.args.self.now)
