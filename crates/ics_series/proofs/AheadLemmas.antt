@@ -41,6 +41,7 @@ use Rattle.ics_series.specs.HeldMost.{Master, held_most}
 use Rattle.ics_starts.specs.RawStarts.{most_in_days}
 use Rattle.ics_series.specs.PlacedEvents.{Placed, clocks_at}
 use Rattle.ics_listing.specs.Rising.{Rises}
+use Rattle.ics_series.specs.Replaced.{AreReplaced}
 use Rattle.ics_series.specs.Steps.{HasStepBound}
 use Rattle.ics_listing.proofs.Cases.{here-or-later}
 use Rattle.ics_series.proofs.HoldingLaws.{sum_by-map, wider-bound}
@@ -289,6 +290,7 @@ module _ (files : List FileSaid) (display : Clock) where
     pub by : Placed
     pub is : IsMaster files display by
     pub same : master_of m ≡ master_at files display by
+    pub replaced : AreReplaced files display by.event.uid m.replaced
 
   -- A sum over some masters of the folder, each with a UID of its own, is at most that over all of them.
   pub sum-of-masters : (f : Master → ℕ) (ms : List Recurring) (masters : List Placed) → Rises uid_cmp ms → AllByRecursion IsOfFolder ms
@@ -311,7 +313,7 @@ module _ (files : List FileSaid) (display : Clock) where
 -- those that are searched near a day are masters of the folder
 pub day-masters : (s : Scope) (day : ℤ) (ms : List Recurring) → AllByRecursion (IsDayMaster s day) ms → AllByRecursion (IsOfFolder s.files s.display) ms
 day-masters s day ms =
-    all-as (IsDayMaster s day) (IsOfFolder s.files s.display) ms (λ m h. record { by = h.by; is = h.is; same = h.searched.same })
+    all-as (IsDayMaster s day) (IsOfFolder s.files s.display) ms (λ m h. record { by = h.by; is = h.is; same = h.searched.same; replaced = h.replaced })
 
 -- those of a listing are searched in its window, from an instant on
 pub searched-masters : (s : Scope) {day : ℤ} {n : Window} (after : Option Rank) → IsNearDay s.display s.window s.bounds day n
@@ -326,6 +328,7 @@ searched-masters s {day = day} {n = n} after near from ms =
         near = subst (IsNearDay s.display s.window s.bounds day) (sym h.window) near;
         from = from m.since h.since;
       };
+      replaced = h.replaced;
     })
 
 module _ (files : List FileSaid) (display : Clock) (w : Window) (after : Option Rank) where
@@ -335,7 +338,7 @@ module _ (files : List FileSaid) (display : Clock) (w : Window) (after : Option 
   most-of-masters sources masters are all =
       held-of-masters files display (recurring sources) masters are.apart.1.1
       (all-as (IsMasterOf files display w after) (IsOfFolder files display) (recurring sources)
-      (λ m h. record { by = h.by; is = h.is; same = same-master files display m h.by h.clocks h.event }) are.each) all
+      (λ m h. record { by = h.by; is = h.is; same = same-master files display m h.by h.clocks h.event; replaced = h.replaced }) are.each) all
 
 -- past the last day the window holds nothing near one
 none-near : (clock : Clock) (w : Window) (b : Bounds) (day : ℤ) (n : Window) → last_near w b <ℤ day → IsNearDay clock w b day n → ⊥

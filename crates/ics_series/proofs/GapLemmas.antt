@@ -1,24 +1,23 @@
 -- A walk over places that rise: what lies between two of them is none of them.
 use Rattle.std.proofs.Common.{◌≡◌, ℕ, zero, suc, ◌+◌, ◌-◌, ◌<◌, ◌≤◌, List, [], ◌∷◌, ◌++◌, map, length, drop, get_or, inl, ⊎_elim, Option, Some, None, Less}
-use Rattle.std.proofs.Common.{refl, sym, ◌∙◌, ap, subst, arith, slice_get, option_map, take, true, ℤ, ◌⊎◌}
+use Rattle.std.proofs.Common.{refl, sym, ◌∙◌, ap, subst, arith, slice_get, option_map, take, true, ℤ}
 use Rattle.std.specs.List.{filter_map}
 use Rattle.std.specs.Ordering.{nat_cmp, MatchOrdering}
 use Rattle.std.proofs.lemmas.Cmp.{ranked}
 use Rattle.std.proofs.lemmas.List.{drop_all, drop_more}
 use Rattle.std.proofs.lemmas.Option.{get_or_from_slice_get, slice_get-get_or, slice_get-map, slice_get_within}
-use Rattle.ics_event.specs.declared.event.Event.{Event}
 use Rattle.ics_file.specs.File.{FileSaid}
 use Rattle.ics_listing.specs.After.{is_after}
 use Rattle.ics_listing.specs.Entry.{Entry, Rank}
 use Rattle.ics_listing.specs.FeedSources.{Source}
-use Rattle.ics_listing.specs.FileClocks.{Clock, Clocks}
+use Rattle.ics_listing.specs.FileClocks.{Clock}
 use Rattle.ics_listing.specs.Listing.{IsIn}
 use Rattle.ics_listing.specs.Rising.{Rises}
 use Rattle.ics_listing.specs.declared.window.Window.{Window}
 use Rattle.ics_listing.proofs.ListingLemmas.{all-in, before-each, get-in}
 use Rattle.ics_series.specs.Inner.Masters.{HasLists, HasSources}
 use Rattle.ics_days.specs.NearPlaces.{AreNear, AreSameBut}
-use Rattle.ics_series.specs.Inner.Spans.{AreSpans, IsMovedOn, IsStartedBy}
+use Rattle.ics_series.specs.Inner.Spans.{AreSpans, IsSpanPut, IsStartedBy}
 use Rattle.ics_series.specs.Singles.{single_at}
 use Rattle.ics_days.specs.declared.span.Span.{Span}
 use Rattle.ics_series.specs.declared.version.Version.{Version}
@@ -124,21 +123,16 @@ module _ (files : List FileSaid) (display : Clock) (w : Window) {floor : Option 
       step-up (λ n. HasSources files display w after (map seen (take n vs)) before now) from to low
       (λ j a b k. sources-skip chosen j (slice_get-get_or vs j any_version (omega (arith, b, high))) k refl) has
 
--- Spans that are moved on at one of the near places are as they were at the others.
-pub moved-others : {clocks : Clocks} {event : Event} {w : Window} {since : ℤ} {floor : Option ℤ} {coming : List Entry} {old new : List Span}
-    (near : List ℕ) (k : ℕ) → IsIn k near → IsMovedOn clocks event w since floor coming old k new → AreSameBut near old new
-moved-others {old = old} {new = new} near k m moved j away = ⊎_elim (λ e. ap (λ xs. slice_get xs j) e) (λ put. by-put put.put) moved
+-- Spans of which that at one of the near places is put anew are as they were at the others.
+pub put-others : (old new : List Span) (near : List ℕ) (k : ℕ) {span : Span} → IsIn k near → IsSpanPut old k span new → AreSameBut near old new
+put-others old new near k m put j away = by (slice_get new j) refl
   where
-    none : (o : Option Span) → slice_get old j ≡ o → length new ≡ length old → slice_get new j ≡ None → slice_get new j ≡ slice_get old j
-    none None e size n = n ∙ sym e
-    none (Some s) e size n =
+    none : (o : Option Span) → slice_get old j ≡ o → slice_get new j ≡ None → slice_get new j ≡ slice_get old j
+    none None e n = n ∙ sym e
+    none (Some s) e n =
         let within = slice_get_within old j s e in
-        let there : Some (get_or new j s) ≡ None = sym (slice_get-get_or new j s (omega (arith, within, size))) ∙ n in absurd cc
+        let there : Some (get_or new j s) ≡ None = sym (slice_get-get_or new j s (omega (arith, within, put.0))) ∙ n in absurd cc
 
-    by-put : {span : Span} → (length new ≡ length old)
-        × ((i : ℕ) (s : Span) → slice_get new i ≡ Some s → (slice_get old i ≡ Some s) ⊎ ((i ≡ k) × (s ≡ span))) → slice_get new j ≡ slice_get old j
-    by-put put = by (slice_get new j) refl
-      where
-        by : (o : Option Span) → slice_get new j ≡ o → slice_get new j ≡ slice_get old j
-        by None e = none (slice_get old j) refl put.0 e
-        by (Some s) e = ⊎_elim (λ before. e ∙ sym before) (λ mine. absurd (away (subst (λ n. IsIn n near) (sym mine.0) m))) (put.1 j s e)
+    by : (o : Option Span) → slice_get new j ≡ o → slice_get new j ≡ slice_get old j
+    by None e = none (slice_get old j) refl e
+    by (Some s) e = ⊎_elim (λ before. e ∙ sym before) (λ mine. absurd (away (subst (λ n. IsIn n near) (sym mine.0) m))) (put.1 j s e)

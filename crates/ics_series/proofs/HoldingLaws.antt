@@ -40,7 +40,6 @@ use Rattle.ics_listing.specs.Listing.{IsIn}
 use Rattle.ics_listing.specs.Merged.{merged}
 use Rattle.ics_listing.specs.Rising.{Rises}
 use Rattle.ics_starts.specs.RuleStarts.{ends_at, midnight_number}
-use Rattle.ics_starts.specs.SeriesFeed.{series_near}
 use Rattle.ics_starts.specs.SingleEvents.{is_single}
 use Rattle.ics_listing.specs.StartTimes.{local_of}
 use Rattle.ics_starts.specs.Starts.{recurrence_of}
@@ -110,16 +109,17 @@ most_of m = 2 + most_in_days m.clocks m.event
 abbrev once : Source → ℕ
 once s = cond (is_once s) 1 0
 
-abbrev master_in : SeriesFeed → Recurring
-master_in s = record { clocks = clocks_in s.zones; event = s.event.now; window = s.window; since = s.since }
+abbrev pub master_in : SeriesFeed → Recurring
+master_in s = record { clocks = clocks_in s.zones; event = s.event.now; window = s.window; since = s.since; replaced = s.replaced }
 
 lead-few : (head : Option Occurrence) (p : Part) →
     length (listed head (part_holds p)) ≤ sum_by once (part_sources p) + sum_by most_of (recurring (part_sources p))
 lead-few head (Singles s) = omega (arith, one-drawn head [], sum_by-cons once Once [])
 lead-few head (Series s) =
-    omega (arith, one-drawn head (series_holds s.series.value), series-few s.series.value, sum_by-cons most_of (master_in s.series.value) [])
+    let inner = s.series.value.series in
+    omega (arith, one-drawn head (series_holds inner), series-few inner, sum_by-cons most_of (master_in inner) [])
 
-abbrev sources_in : {X : Type 0} → (X → Part) → List X → List Source
+abbrev pub sources_in : {X : Type 0} → (X → Part) → List X → List Source
 sources_in part xs = flat_map (λ x. part_sources (part x)) xs
 
 -- Leads, each with what is drawn of its part and the part.
@@ -148,16 +148,20 @@ looks-earlier : (o : Option ℕ) (start a place : ℕ) → a ≤ place → looks
 looks-earlier None start a place l = l
 looks-earlier (Some c) start a place l = omega arith
 
-abbrev InOne : Entry → List (List Entry) → Type 0
+abbrev pub InOne : Entry → List (List Entry) → Type 0
 InOne e lists = IsInOne entry_cmp entry_total e lists
 
+-- its rule is read near an occurrence of it that begins at its instant or later
+abbrev IsReadNear : SeriesFeed → Option RuleStarts → Entry → Type 0
+IsReadNear s rule e = e.event ≡ s.event.now → s.since ≤ℤ e.start → IsAskedNear (clocks_in s.zones) s.event.now (rule_asked rule) e.start
+
 -- A series whose rule has been read no further than its occurrences still to come ask.
-series-most : (s : SeriesFeed) (coming : List Entry) (most : ℕ) → ((e : Entry) → IsIn e coming → e.event ≡ s.event.now → series_near s e)
+series-most : (s : SeriesFeed) (coming : List Entry) (most : ℕ) → ((e : Entry) → IsIn e coming → IsReadNear s s.rule_starts e)
     → HasStepBound (master_in s) coming most → rule_looked s.rule_starts ≤ most
-series-most s coming most near bound = by s.rule_starts s.own_rule (λ e m of. (near e m of).1)
+series-most s coming most near bound = by s.rule_starts s.own_rule near
   where
     by : (o : Option RuleStarts) → HasOwnRule s.zones s.event.now s.window (first_of (clocks_in s.zones) s.window s.event.now s.since) o
-        → ((e : Entry) → IsIn e coming → e.event ≡ s.event.now → IsAskedNear (clocks_in s.zones) s.event.now (rule_asked o) e.start) → rule_looked o ≤ most
+        → ((e : Entry) → IsIn e coming → IsReadNear s o e) → rule_looked o ≤ most
     by None own near = omega arith
     by (Some r) own near =
         let p = bound r.rule (sym (ap recurrence_of own.event_is) ∙ r.rule_of.of) in
@@ -169,7 +173,7 @@ series-most s coming most near bound = by s.rule_starts s.own_rule (λ e m of. (
         let to-is : ends r.window r.event.now ≡ ends s.window s.event.now = λ i. ends (own.window_is i) (own.event_is i) in
         let high : midnight_number r.asked ≤ p.b = ⊎_elim
         (λ past. omega (arith, ints, asked-number r, end, to-is, off-is, past))
-        (λ o. let close = near o.occurrence o.stands o.of o.local o.kept in omega (arith, ints, asked-number r, close, o.past)) p.to in
+        (λ o. let close = near o.occurrence o.stands o.of o.from o.local o.kept in omega (arith, ints, asked-number r, close, o.past)) p.to in
         let low : p.a ≤ number r.from = omega (arith, ints, p.from, own.late, number-seconds r.from own.day) in
         let steps = few_steps r.rule r.cursor (looks_from r.rule.parts.count (number r.rule.start) (number r.from)) (midnight_number r.asked) r.own
         (r.looked (midnight_number r.asked) (omega arith)) in
@@ -179,9 +183,9 @@ series-most s coming most near bound = by s.rule_starts s.own_rule (λ e m of. (
 -- Parts, of which one at most is of the events that start once, and the masters of the others have UIDs of their own.
 abbrev IsOfPart : Part → Entry → Type 0
 IsOfPart (Singles s) e = is_single e.event ≡ true
-IsOfPart (Series s) e = e.event ≡ s.series.value.event.now
+IsOfPart (Series s) e = e.event ≡ s.series.value.series.event.now
 
-not-single : (e : Entry) (event : Event) → e.event ≡ event → is_single e.event ≡ true → is_single event ≡ false → ⊥
+pub not-single : (e : Entry) (event : Event) → e.event ≡ event → is_single e.event ≡ true → is_single event ≡ false → ⊥
 not-single e event p s r = let no : true ≡ false = sym s ∙ (ap is_single p ∙ r) in absurd cc
 
 -- what is near to a part is of it
@@ -199,10 +203,10 @@ AreOwn sources = AllByRecursion (λ m. is_single m.event ≡ false) (recurring s
 
 both-near : (e : Entry) (p q : Part) (more : List Source) → AreOwn (part_sources p ++ (part_sources q ++ more)) → AreBoth e p q
 both-near e (Singles s) (Singles t) more own a b = (a, b)
-both-near e (Singles s) (Series t) more own a b = absurd (not-single e t.series.value.event.now b a own.0.0)
-both-near e (Series s) (Singles t) more own a b = absurd (not-single e s.series.value.event.now a b own.0.0)
+both-near e (Singles s) (Series t) more own a b = absurd (not-single e t.series.value.series.event.now b a own.0.0)
+both-near e (Series s) (Singles t) more own a b = absurd (not-single e s.series.value.series.event.now a b own.0.0)
 both-near e (Series s) (Series t) more own a b =
-    let uid = s.series.value.event.now.uid in
+    let uid = s.series.value.series.event.now.uid in
     absurd (not-less-itself (slice_cmp nat_cmp) nat_list_cmp_total uid (ap (λ (v : Event). slice_cmp nat_cmp uid v.uid) (sym a ∙ b) ∙ own.1.0.0))
 
 own-rest : (p : Part) (more : List Source) → AreOwn (part_sources p ++ more) → AreOwn more
@@ -260,8 +264,9 @@ module _ {X : Type 0} (part : X → Part) (lists : X → List Entry) where
             → part_looked p + sum_by (λ y. part_looked (part y)) xs ≤ sum_by most (recurring (part_sources p ++ sources_in part xs))
         by (Singles s) near bound rest = omega (arith, rest bound)
         by (Series s) near bound rest =
-            let own = series-most s.series.value coming (most (master_in s.series.value)) near bound.0 in
-            omega (arith, own, sum_by-cons most (master_in s.series.value) (recurring (sources_in part xs)), rest bound.1)
+            let inner = s.series.value.series in
+            let own = series-most inner coming (most (master_in inner)) (λ e m of from. (near e m of).1 from) bound.0 in
+            omega (arith, own, sum_by-cons most (master_in inner) (recurring (sources_in part xs)), rest bound.1)
 
   -- Parts have together looked at no more periods than each of their masters may.
   pub steps-of-leads : (most : Recurring → ℕ) (xs : List X) → AreApart (sources_in part xs) → AllNear xs →
@@ -285,6 +290,7 @@ wider-bound m f bound rule has =
             occurrence = q.occurrence;
             stands = f q.occurrence q.stands;
             of = q.of;
+            from = q.from;
             local = q.local;
             kept = q.kept;
             past = q.past;

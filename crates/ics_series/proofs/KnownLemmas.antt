@@ -1,6 +1,6 @@
 -- The series of masters that rest from day to day.
 use Rattle.std.specs.Global.{Box}
-use Rattle.std.proofs.Common.{◌≡◌, ◌∙◌, ℕ, List, [], ◌∷◌, ◌++◌, Some, None, sym, ap}
+use Rattle.std.proofs.Common.{◌≡◌, ◌∙◌, ℕ, List, [], ◌∷◌, ◌++◌, Some, None, sym, ap, subst}
 use Rattle.std.specs.List.{flat_map, AllByRecursion}
 use Rattle.std.proofs.Math.Logic.{∥∥₁_elim}
 use Rattle.ics_file.specs.File.{FileSaid}
@@ -8,11 +8,11 @@ use Rattle.ics_event.specs.declared.event.Event.{Event}
 use Rattle.ics_listing.specs.FeedSources.{Recurring, Source}
 use Rattle.ics_listing.specs.FileClocks.{Clock}
 use Rattle.ics_listing.proofs.ListingLemmas.{all-as}
-use Rattle.ics_starts.specs.SeriesLaws.{event-set}
-use Rattle.ics_starts.specs.declared.series.Series.{Series}
+use Rattle.ics_continued.specs.declared.continued.Continued.{Continued}
 use Rattle.ics_series.specs.AgendaParts.{part_sources}
 use Rattle.ics_series.specs.Chosen.{IsMaster, SubjectSeen}
-use Rattle.ics_series.specs.Inner.Kept.{IsKeptIn, IsPartOf, IsSeriesOf}
+use Rattle.ics_series.specs.HeldMost.{Master}
+use Rattle.ics_series.specs.Inner.Kept.{master-series-prop, IsKeptIn, IsMasterSeries, IsPartOf, IsSeriesOf}
 use Rattle.ics_series.specs.PlacedEvents.{Placed}
 use Rattle.ics_series.specs.Sources.{recurring}
 use Rattle.ics_series.specs.declared.part.Part.{Part}
@@ -48,16 +48,24 @@ module _ (files : List FileSaid) (display : Clock) where
   one-master : (p q : Placed) → IsMaster files display p → IsMaster files display q → p.event.uid ≡ q.event.uid → p ≡ q
   one-master p q h k u = one-chosen h.chosen k.chosen (master-subject files display p h ∙ (ap sub u ∙ sym (master-subject files display q k)))
 
-  -- so what is known of a master with an event's UID is known of that event
-  pub kept-own : (event : Event) (kept : Box Series) (by : Placed) → IsMaster files display by → by.event ≡ event
-      → IsKeptIn files display (Some kept) → kept.value.event.now.uid ≡ event.uid → IsSeriesOf event (Some kept)
-  kept-own event kept by is e known uid = ∥∥₁_elim known (event-set kept.value.event.now event) (λ h.
-      let same = one-master h.0 by h.1 is (sym (ap (λ (v : Event). v.uid) h.2) ∙ (uid ∙ sym (ap (λ (v : Event). v.uid) e))) in
-      h.2 ∙ (ap (λ (p : Placed). p.event) same ∙ e))
+  -- so a series of a master with an event's UID is that of the master which has the event
+  pub kept-own : (event : Event) (kept : Box Continued) (by : Placed) → IsMaster files display by → by.event ≡ event
+      → IsKeptIn files display (Some kept) → kept.value.series.event.now.uid ≡ event.uid → IsSeriesOf files display by (Some kept)
+  kept-own event kept by is e known uid = ∥∥₁_elim known (master-series-prop files display by kept.value) (λ h.
+      let same = one-master h.0 by h.1 is (sym (ap (λ (v : Event). v.uid) h.2.event) ∙ (uid ∙ sym (ap (λ (v : Event). v.uid) e))) in
+      subst (λ (p : Placed). IsMasterSeries files display p kept.value) same h.2)
 
   part-of : (p : Part) → AllByRecursion (IsOfFolder files display) (recurring (part_sources p)) → IsPartOf files display p
   part-of (part.Singles s) all = tt
-  part-of (part.Series s) all = ∣ (all.0.by, all.0.is, ap (λ m. m.event) all.0.same) ∣₁
+  part-of (part.Series s) all = ∣ (
+    all.0.by,
+    all.0.is,
+    record {
+      event = ap (λ (m : Master). m.event) all.0.same;
+      clocks = ap (λ (m : Master). m.clocks) all.0.same;
+      replaced = all.0.replaced;
+    },
+  ) ∣₁
 
   -- the feeds of a day's agenda are parts of masters
   pub parts-of : {L : Type 0} (feed : L → Part) (leads : List L)

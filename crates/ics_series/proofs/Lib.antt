@@ -1,4 +1,5 @@
 pub mod AfterLemmas
+pub mod AgainLemmas
 pub mod AheadLemmas
 pub mod BeginningLemmas
 pub mod GapLemmas
@@ -11,7 +12,7 @@ pub mod OverrideLemmas
 pub mod ReachLemmas
 pub mod RecurringLemmas
 pub mod ReplacedLemmas
-pub mod SharedLemmas
+pub mod SinceLemmas
 pub mod SinglesLemmas
 pub mod SourceLemmas
 pub mod SpanLemmas

@@ -17,7 +17,7 @@ use Rattle.ics_listing.specs.Listing.{IsIn, IsListing}
 use Rattle.ics_series.specs.Inner.Masters.{AreFrom, IsBehind, IsOfVersion, IsSince, Recurs, IsUnreplaced}
 use Rattle.ics_listing.specs.After.{is_after}
 use Rattle.ics_starts.specs.Instances.{IsOf}
-use Rattle.ics_series.specs.Chosen.{IsOverridden}
+use Rattle.ics_series.specs.Chosen.{IsMaster, IsOverridden}
 use Rattle.ics_series.specs.PlacedEvents.{Placed, clocks_at}
 use Rattle.ics_starts.specs.SeriesStarts.{given_of, IsSeriesMet}
 use Rattle.ics_starts.specs.SingleEvents.{is_single}
@@ -34,7 +34,7 @@ use Rattle.ics_series.proofs.VersionLemmas.{in-map, placed-event, IsGiven}
 use Rattle.ics_starts.proofs.StartSourceLemmas.{gives-value, same-given}
 use Rattle.ics_listing.proofs.StartOrderLemmas.{rdate-time}
 use Rattle.ics_starts.proofs.InstantLemmas.{late}
-use Rattle.ics_series.proofs.ReplacedLemmas.{AreReplaced}
+use Rattle.ics_series.specs.Replaced.{AreReplaced}
 use Rattle.ics_series.proofs.ToComeLemmas.{to-come, unreplaced-kept}
 use Rattle.ics_listing.specs.WindowBounds.{occurrence_first}
 use Rattle.std.proofs.lemmas.Cmp.{tied_itself}
@@ -138,6 +138,12 @@ module _ {files : List FileSaid} {display : Clock} {vs : List Version} {label : 
   pub own-clocks : clocks_at files display own.0.file ≡ clocks
   own-clocks = ap (λ (l : Label). clocks_at files display l.spot.file) (sym own.2)
 
+  pub own-master : IsMaster files display own.0
+  own-master = record {
+    chosen = (chosen.listing.exact own.0).0 own.1;
+    single = ap (λ (e : Event). e.recurrence) own-event ∙ recurring-master event r.recurs;
+  }
+
   -- its subject is its UID alone
   pub own-subject : label.subject ≡ record { uid = event.uid; recurrence = None }
   own-subject =
@@ -201,10 +207,11 @@ module _ {files : List FileSaid} {display : Clock} {label : Label} (r : Recurs f
         (low o is, λ l. begun o is b ∙ true_int_le since o.start (omega (arith, ints, late, l)))
 
     -- what its series gives are the occurrences of its event, if none of them is earlier
-    pub series-listing : AreFrom files display w after label least → {replaced : List ℤ} → AreReplaced files display r.event.uid replaced → {list : List Entry}
-        → IsListing entry_cmp (IsSeriesMet (clocks_in zones) r.event w least replaced) list → IsListing entry_cmp (IsOfVersion files display w after label) list
-    series-listing first are {list = list} l =
-        let k = rw read.clocks at l in
+    pub series-listing : AreFrom files display w after label least → {replaced : List ℤ} → AreReplaced files display r.event.uid replaced → {clocks : Clocks}
+        → clocks ≡ by_file → {list : List Entry} → IsListing entry_cmp (IsSeriesMet clocks r.event w least replaced) list
+        → IsListing entry_cmp (IsOfVersion files display w after label) list
+    series-listing first {replaced = replaced} are same {list = list} l =
+        let k = subst (λ clocks. IsListing entry_cmp (IsSeriesMet clocks r.event w least replaced) list) same l in
         relisted k (met-come are) (λ o h. let of = own-of o h in (
           (of, h.meets),
           (first o h (low o of), (are.each o.start).1 (λ v. h.kept (named-alike (sym (ap (λ (e : Event). e.uid) of.event)) (sym of.recurrence) v))),
@@ -225,5 +232,5 @@ whole-version {zones = zones} r read {replaced = replaced} are w =
     let starts = whole-starts (clocks_in zones) w r.event occurrence_first read.is_event in (
       given_of (clocks_in zones) w r.event occurrence_first replaced starts.0,
       series-listing r read w None occurrence_first (λ o u e low high. sym (true_int_le occurrence_first o.start low)) (omega (arith, ints))
-          (λ o h low. low) are (listing-by (clocks_in zones) w r.event occurrence_first replaced starts.0 starts.1),
+          (λ o h low. low) are read.clocks (listing-by (clocks_in zones) w r.event occurrence_first replaced starts.0 starts.1),
     )

@@ -21,17 +21,14 @@ use Rattle.ics_listing.specs.Rising.{Rises}
 use Rattle.ics_listing.proofs.ListingLemmas.{before-in, front-before, get-in, rises-end, rises-picked, rises-sorted, split-at}
 use Rattle.ics_series.specs.Chosen.{IsOverridden, SubjectSeen}
 use Rattle.ics_series.specs.Inner.Masters.{named, named_by}
+use Rattle.ics_series.specs.Replaced.{AreReplaced}
 use Rattle.ics_series.specs.Versions.{is_named, seen, subject_cmp, AreChosen, Label}
 use Rattle.ics_series.specs.declared.version.Version.{Version}
 use Rattle.ics_series.proofs.OverrideLemmas.{instance, label_subject_cmp, named-overridden, overridden-named}
 use Rattle.ics_series.proofs.VersionLemmas.{map-in, subject_total}
 use Rattle.ics_starts.specs.Exclusions.{is_among}
 
--- the instants are those of the instances of this UID that overrides replace
-pub record AreReplaced (files : List FileSaid) (display : Clock) (uid : List ℕ) (replaced : List ℤ) : Type 0 where
-  pub each : (t : ℤ) → (is_among replaced t ≡ false) ↔ (IsOverridden files display uid t → ⊥)
-
--- which they are where the versions name them
+-- What is replaced is what the versions name.
 pub are-replaced : (files : List FileSaid) (display : Clock) (vs : List Version) → AreChosen files display vs → (uid : List ℕ) {replaced : List ℤ}
     → ((t : ℤ) → is_among replaced t ≡ is_named (instance uid t) (map seen vs)) → AreReplaced files display uid replaced
 are-replaced files display vs h uid {replaced = replaced} names = record {

@@ -21,6 +21,7 @@ use Rattle.ics_listing.specs.declared.window.Window.{Window}
 use Rattle.ics_listing.specs.FileClocks.{Clock}
 use Rattle.ics_listing.specs.Entry.{Rank, Entry, entry_cmp}
 use Rattle.ics_listing.specs.Listing.{IsIn, IsListing}
+use Rattle.ics_series.specs.Replaced.{AreReplaced}
 use Rattle.ics_series.specs.Inner.Masters.{HasSources, IsSource, IsSourceOf, Recurs, HasLists, IsOfVersion, IsOneOf}
 use Rattle.ics_listing.specs.Rising.{Rises}
 use Rattle.ics_starts.specs.SingleEvents.{is_single}
@@ -31,7 +32,7 @@ use Rattle.ics_series.specs.Versions.{seen, subject_cmp, AreChosen, Label}
 use Rattle.ics_listing.proofs.LeadLemmas.{all-pushed}
 use Rattle.ics_listing.proofs.ListingLemmas.{front-before, split-at, all-as, all-in, get-in, in-append_left, in-append_right, in-append}
 use Rattle.ics_series.proofs.OverrideLemmas.{chosen-rises}
-use Rattle.ics_series.proofs.RecurringLemmas.{own-clocks, own-event, own-subject, recurring-master, own}
+use Rattle.ics_series.proofs.RecurringLemmas.{own-clocks, own-event, own-master, own-subject, own}
 use Rattle.ics_series.proofs.VersionLemmas.{map-in, subject_total}
 use Rattle.ics_starts.proofs.JoinedLemmas.{rises-append}
 use Rattle.std.proofs.Math.Seq.{take-suc}
@@ -213,14 +214,14 @@ module _ {files : List FileSaid} {display : Clock} {w : Window} {after : Option 
 
     pub master-of : (m : Recurring) → IsSource files display w after (map seen vs) m → IsMasterOf files display w after m
     master-of m h =
-        let o = own chosen h.stands (recurs-of h.label m h.is) in
         let same = own-event chosen h.stands (recurs-of h.label m h.is) in record {
-          by = o.0;
-          is = record { chosen = (chosen.listing.exact o.0).0 o.1; single = ap (λ (e : Event). e.recurrence) same ∙ recurring-master m.event h.is.recurs };
+          by = (own chosen h.stands (recurs-of h.label m h.is)).0;
+          is = own-master chosen h.stands (recurs-of h.label m h.is);
           event = sym same;
           clocks = h.is.clocks ∙ sym (own-clocks chosen h.stands (recurs-of h.label m h.is));
           window = h.is.window;
           since = h.is.since;
+          replaced = subst (λ (e : Event). AreReplaced files display e.uid m.replaced) (sym same) h.is.replaced;
         }
 
     -- with nothing before them that is of masters

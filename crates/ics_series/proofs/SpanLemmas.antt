@@ -17,17 +17,15 @@ use Rattle.ics_zone.proofs.Cases.{less_or_not_z, true_int_le, true_int_lt}
 use Rattle.ics_zone.specs.declared.bounds.Bounds.{Bounds}
 use Rattle.ics_starts.specs.Clocks.{instant}
 use Rattle.ics_days.specs.NearDays.{first_near, last_near, HasOffsets, IsNearDay}
-use Rattle.ics_starts.specs.declared.series.Series.{Series}
 use Rattle.ics_days.specs.declared.span.Span.{Span}
 use Rattle.ics_series.specs.declared.version.Version.{Version}
 use Rattle.ics_listing.specs.declared.window.Window.{Window}
 use Rattle.ics_series.specs.Chosen.{overridden, subject_of, IsChosen}
 use Rattle.ics_listing.specs.FileClocks.{Clock, Clocks}
-use Rattle.ics_listing.specs.Entry.{entry_cmp, Entry, Rank}
+use Rattle.ics_listing.specs.Entry.{Entry, Rank}
 use Rattle.ics_series.specs.Laws.{HasVersion}
 use Rattle.ics_listing.specs.Listing.{IsIn, IsListing}
-use Rattle.ics_starts.specs.FileZones.{clocks_in}
-use Rattle.ics_series.specs.Inner.Masters.{AreFrom, IsBehind, IsOfVersion, IsSourceOf, Recurs}
+use Rattle.ics_series.specs.Inner.Masters.{AreFrom, IsOfVersion}
 use Rattle.ics_listing.specs.WindowMeeting.{is_met}
 use Rattle.ics_series.specs.Meets.{IsListed}
 use Rattle.ics_starts.specs.Instances.{IsOf}
@@ -40,12 +38,9 @@ use Rattle.ics_series.specs.Singles.{single_at, single_of}
 use Rattle.ics_series.specs.Inner.SpanLaws.{AreThoseChosen}
 use Rattle.ics_days.specs.Spans.{always, can_meet, first_at, first_in, is_out, is_out_of}
 use Rattle.ics_series.specs.Inner.Spans.{span_at, span_by, span_of, span_once, IsKeptFrom}
-use Rattle.ics_series.specs.Inner.Spans.{floor_of, AreMovedOn, AreSpans, AreSpansAfter, IsLater, IsMovedOn, IsRest, IsSpanOf, IsStartedBy, NoneMeets}
+use Rattle.ics_series.specs.Inner.Spans.{floor_of, AreSpans, AreSpansAfter, AreSpansBehind, IsLater, IsRest, IsSpanOf, IsStartedBy, NoneMeets}
 use Rattle.ics_listing.specs.After.{is_after}
 use Rattle.ics_listing.specs.WindowBounds.{occurrence_first}
-use Rattle.ics_starts.specs.SeriesFeed.{series_sources}
-use Rattle.ics_listing.specs.FeedSources.{Recurring}
-use Rattle.ics_listing.specs.FeedSources.Source.{Of}
 use Rattle.ics_series.specs.Spots.{event_at}
 use Rattle.ics_series.specs.Versions.{by_subject, label_of, placed_in, seen, AreChosen, Label}
 use Rattle.ics_series.proofs.AheadLemmas.{near-under, shown-first, shown-last, NoneBetween}
@@ -54,7 +49,6 @@ use Rattle.ics_listing.proofs.ListingLemmas.{contains-in, get-in, one-listing}
 use Rattle.ics_listing.proofs.NearLemmas.{day-under}
 use Rattle.ics_days.proofs.NearDayLemmas.{bounds-offsets, day-within, later-on, near-ordered}
 use Rattle.ics_starts.proofs.MeetsLemmas.{is_met-meets, meets-is_met}
-use Rattle.ics_series.proofs.MarkLemmas.{first_source}
 use Rattle.ics_series.proofs.RecurringLemmas.{recurring-master}
 use Rattle.ics_series.proofs.SinglesLemmas.{given-first}
 use Rattle.ics_series.proofs.ToComeLemmas.{kept-unreplaced, listed-given}
@@ -255,7 +249,7 @@ module _ (files : List FileSaid) (display : Clock) (vs : List Version) (chosen :
         slice_get-get_or (map seen vs) c.0 l c.1 ∙ ap Some c.2,
       )
 
-  pub none-of : {floor : Option ℤ} (n : Window) → AreSpans files display n floor (map seen vs) spans
+  none-of : {floor : Option ℤ} (n : Window) → AreSpans files display n floor (map seen vs) spans
       → ((s : Span) → IsIn s spans → can_meet s n ≡ false) → (l : Label) (event : Event)
       → IsIn l (map seen vs) → event_at files l.spot ≡ Some event → NoneMeets (clocks_at files display l.spot.file) event n (IsKeptFrom files display floor)
   none-of n are none l event m stands =
@@ -346,64 +340,6 @@ module _ (clocks : Clocks) (event : Event) (recurs : is_single event ≡ false) 
     first = λ recurs o of meets asked enough. late o of meets asked;
   }
 
--- Spans that are moved on.
-module _ (files : List FileSaid) (display : Clock) (w : Window) (floor : Option ℤ) (labels : List Label) where
-  -- the span of a master that has nothing in the window
-  module _ (k : ℕ) {l : Label} (there : slice_get labels k ≡ Some l) (r : Recurs files l) {after : Option Rank} {since : ℤ}
-      (behind : IsBehind files display w after l since) where
-    none-later : (old : List Span) {s : Span} → since ≤ℤ int_max (unwrap_or floor always.first) (first_at old k)
-        → ((o : Entry) → IsOfVersion files display w after l o → ⊥) → IsRest (clocks_at files display l.spot.file) r.event w since s
-        → (n : Window) → IsLater w n → AreSpans files display n floor labels old
-        → IsSpanOf (clocks_at files display l.spot.file) r.event n (IsKeptFrom files display floor) s
-    none-later old low none rest n later are =
-        rest-span (clocks_at files display l.spot.file) r.event r.recurs w n (IsKeptFrom files display floor) rest from
-        -- none begins before the window's end, since it would meet the window
-        (λ o of meets asked begun. absurd (
-        let come = behind r o of begun in
-        none o (record {
-          by = r;
-          of = of;
-          meets = meets-before w n later o meets begun;
-          later = come.1 (from o of meets asked come.0);
-          kept = asked.kept;
-        })))
-      where
-        from : (o : Entry) → IsOf (clocks_at files display l.spot.file) r.event o → Meets n o → IsKeptFrom files display floor o
-            → occurrence_first ≤ℤ o.start → since ≤ℤ o.start
-        from o of meets started enough =
-            let begun = from-first files display n labels old are k there r.event r.stands r.recurs o of meets started enough in
-            low-start since (first_at old k) floor low o started.started begun enough
-
-    moved-at : {coming : List Entry} {old new : List Span} → IsListing entry_cmp (IsOfVersion files display w after l) coming
-        → IsMovedOn (clocks_at files display l.spot.file) r.event w since floor coming old k new → AreMovedOn files display w floor labels old new
-    moved-at listing (inl e) = record { size = ap length e; still = λ n later are. subst (AreSpans files display n floor labels) (sym e) are }
-    moved-at {old = old} {new = new} listing (inr put) = record {
-      size = put.put.0;
-      still = λ n later are j s label event at place stands. ⊎_elim
-          (λ before. are j s label event before place stands)
-          (λ mine.
-          let label-is : label ≡ l = ap (λ o. unwrap_or o label) (sym place ∙ (ap (slice_get labels) mine.0 ∙ there)) in
-          let event-is : event ≡ r.event =
-          ap (λ o. unwrap_or o event) (sym stands ∙ (ap (λ (x : Label). event_at files x.spot) label-is ∙ r.stands)) in
-          rw (label-is, event-is, mine.1) (none-later old put.low (λ o v. subst (IsIn o) put.empty ((listing.exact o).1 v)) put.rest n later are))
-          (put.put.1 j s at);
-    }
-
--- So of a series, which is that of the version at a place.
-module _ (files : List FileSaid) (display : Clock) (w : Window) (floor : Option ℤ) (vs : List Version) (k : ℕ) {v : Version}
-    (there : slice_get vs k ≡ Some v) where
-  pub series-moved : {after : Option Rank} (s : Series) {m : Recurring} {coming : List Entry} {old new : List Span}
-      → IsSourceOf files display w after (seen v) m → series_sources s ≡ Of m ∷ [] → IsBehind files display w after (seen v) s.since
-      → IsListing entry_cmp (IsOfVersion files display w after (seen v)) coming
-      → IsMovedOn (clocks_in s.zones) s.event.now s.window s.since floor coming old k new → AreMovedOn files display w floor (map seen vs) old new
-  series-moved {after = after} s {m = m} {coming = coming} {old = old} {new = new} is sources behind listing moved =
-      let one : record { clocks = clocks_in s.zones; event = s.event.now; window = s.window; since = s.since } ≡ m = ap (first_source m) sources in
-      let at = slice_get-map seen vs k ∙ ap (option_map seen) there in
-      let own = subst (λ (r : Recurring). IsMovedOn r.clocks r.event r.window r.since floor coming old k new) one moved in
-      let soon = subst (λ (r : Recurring). IsBehind files display w after (seen v) r.since) one behind in
-      moved-at files display w floor (map seen vs) k at (record { event = m.event; stands = is.stands; recurs = is.recurs }) soon listing
-      (rw (is.clocks, is.window) at own)
-
 -- The windows near days.
 pub near-later : {clock : Clock} {w m n : Window} {b : Bounds} {x y : ℤ} → IsNearDay clock w b x m → IsNearDay clock w b y n → x ≤ℤ y → IsLater m n
 near-later {w = w} {b = b} {x = x} {y = y} h k l = record {
@@ -411,25 +347,17 @@ near-later {w = w} {b = b} {x = x} {y = y} h k l = record {
   same = h.all ∙ sym k.all;
 }
 
--- Spans moved on near a day are those near each later day.
-module _ (files : List FileSaid) (display : Clock) (b : Bounds) (w : Window) (vs : List Version) {day next : ℤ} {old new : List Span}
-    (size : length old ≡ length vs) (are : AreSpansAfter files display b w day (map seen vs) old) {m : Window} (near : IsNearDay display w b next m)
-    (moved : AreMovedOn files display m (floor_of w) (map seen vs) old new) where
-  pub after-next : day <ℤ next → AreSpansAfter files display b w next (map seen vs) new
-  after-next on x n later h =
-      moved.still n (near-later near h (omega (arith, ints, later))) (are x n (omega (arith, ints, later, on)) h)
+-- What is known of the spans for each day after one.
+module _ (files : List FileSaid) (display : Clock) (b : Bounds) (w : Window) {day x : ℤ} (labels : List Label) (spans : List Span)
+    (are : AreSpansAfter files display b w day labels spans) (later : day <ℤ x) where
+  -- it is known for each day after a later one
+  pub after-later : AreSpansAfter files display b w x labels spans
+  after-later y n on near = are y n (omega (arith, ints, later, on)) near
 
-  -- also where the day stays, since nothing is near the days between
-  pub after-same : AreChosen files display vs
-      → ((x : ℤ) → day <ℤ x → x <ℤ next → (s : Span) → IsIn s old → (clock : Clock) (n : Window) → IsNearDay clock w b x n → can_meet s n ≡ false)
-      → AreSpansAfter files display b w day (map seen vs) new
-  after-same chosen none x n later h = elim (less_or_not_z x next) [
-    | inl before ↦ λ k s l event at place stands.
-        let out = none-of files display vs chosen old size n (are x n later h) (λ s m. none x later before s m display n h) l event
-        (get-in l (map seen vs) k place) stands in
-        record { none = λ past. out; first = λ recurs o of meets started low. absurd (out.each recurs o of meets started) }
-    | inr on ↦ moved.still n (near-later near h on) (are x n later h)
-  ]
+  -- and near that day, for what comes after a key that begins at the floor or later
+  pub near-spans : {n : Window} → IsNearDay display w b x n → {after : Option Rank}
+      → ((o : Entry) → is_after after o ≡ true → IsStartedBy (floor_of w) o) → AreSpansBehind files display n after labels spans
+  near-spans {n = n} near started = record { floor = floor_of w; started = started; are = are x n later near }
 
 -- what a window holds near a day
 pub near-window : (clock : Clock) (w : Window) (b : Bounds) → HasOffsets clock w b → (day : ℤ) → first_near w b ≤ℤ day → day ≤ℤ last_near w b
@@ -476,19 +404,6 @@ meets-floor w o met = by w.notstarted refl
     by : (b : Bool) → w.notstarted ≡ b → IsStartedBy (if b then Some (w.from -ℤ pos 1) else None) o
     by true t = let from = met.started t in omega (arith, ints, from)
     by false f = tt
-
--- spans as they were found near a day are those of what is listed
-pub spans-floor : (files : List FileSaid) (display : Clock) (w : Window) (floor : Option ℤ) (labels : List Label) (spans : List Span)
-    → AreSpans files display w None labels spans → AreSpans files display w floor labels spans
-spans-floor files display w floor labels spans are k s l event at there stands =
-    let is = are k s l event at there stands in
-    record {
-      none = λ out. record {
-        once = (is.none out).once;
-        each = λ recurs o of meets started. (is.none out).each recurs o of meets (record { started = tt; kept = started.kept });
-      };
-      first = λ recurs o of meets started low. is.first recurs o of meets (record { started = tt; kept = started.kept }) low;
-    }
 
 -- So nothing is shown under them.
 module _ (files : List FileSaid) (display : Clock) (w : Window) (b : Bounds) (bounded : HasOffsets display w b) (vs : List Version)

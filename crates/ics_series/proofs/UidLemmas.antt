@@ -4,6 +4,11 @@ use Rattle.std.specs.List.{flat_map}
 use Rattle.std.specs.Cmp.Lexicographic.{slice_cmp}
 use Rattle.std.proofs.lemmas.Bool.Decides.{nat_tests}
 use Rattle.std.proofs.lemmas.Cmp.{nat_list_cmp_total, on_total}
+use Rattle.ics_continued.specs.Continued.{continued_left}
+use Rattle.ics_continued.specs.Lasting.{known_left, lasting_entries}
+use Rattle.ics_continued.specs.declared.continued.Continued.{Continued}
+use Rattle.ics_continued.specs.declared.lasting.Lasting.{Lasting}
+use Rattle.ics_event.specs.declared.event.Event.{Event}
 use Rattle.ics_listing.specs.Entry.{Entry}
 use Rattle.ics_listing.specs.Listing.{IsIn}
 use Rattle.ics_listing.specs.Uids.{AreSortedFrom}
@@ -12,12 +17,12 @@ use Rattle.ics_series.specs.declared.part.Part.TheVariants.{Singles, Series}
 use Rattle.ics_series.specs.declared.singles.Singles as single
 use Rattle.ics_series.specs.AgendaParts.{part_coming, part_sources, IsFirstPart}
 use Rattle.ics_listing.specs.Rising.{Rises}
-use Rattle.ics_starts.specs.SeriesFeed.{series_left}
+use Rattle.ics_starts.specs.SeriesFeed.{series_left, series_of}
 use Rattle.ics_series.specs.Sources.{uid_cmp}
 use Rattle.ics_listing.specs.FeedSources.{Recurring, Source}
 use Rattle.ics_listing.specs.FeedSources.Source.{Of, Once}
 use Rattle.ics_starts.specs.FileZones.{clocks_in}
-use Rattle.ics_listing.proofs.ListingLemmas.{rises-by_place}
+use Rattle.ics_listing.proofs.ListingLemmas.{in-append, rises-by_place}
 use Rattle.ics_starts.proofs.SeriesLemmas.{given-own}
 
 -- The feeds of the masters that recur, each of one UID, in the order of their UIDs.
@@ -31,6 +36,18 @@ rest-sources : (p : Part) {source : Source} {xs ys : List Source} → part_sourc
 rest-sources (Singles s) e = ap (drop 1) e
 rest-sources (Series s) e = ap (drop 1) e
 
+-- what is to come of a series is of its event
+known-own : (event : Event) (list : List Lasting) (e : Entry) → IsIn e (lasting_entries event list) → e.event ≡ event
+known-own event [] e m = absurd m
+known-own event (x ∷ list) e m = ⊎_elim (λ s. ap (λ (o : Entry). o.event) s) (known-own event list e) m
+
+left-own : (c : Continued) (e : Entry) → IsIn e (continued_left c) → e.event ≡ c.series.event.now
+left-own c e m =
+    let s = c.series in
+    ⊎_elim (known-own s.event.now (drop c.next c.known.items) e)
+    (given-own (clocks_in s.zones) s.window s.event.now s.since s.replaced (series_left s) e)
+    (in-append e (known_left s.event.now c.next c.known.items) (series_of s (series_left s)) m)
+
 -- what a feed gives is of its one master
 record HasMaster (ms : List Recurring) (i : ℕ) (a : Entry) : Type 0 where
   master : Recurring
@@ -43,12 +60,7 @@ master-in [] ms i a e n = absurd n
 master-in (p ∷ ps) (m ∷ ms) (suc i) a e n =
     let k = master-in ps ms i a (rest-sources p e) n in record { master = k.master; stands = k.stands; event = k.event }
 master-in (Series s ∷ ps) (m ∷ ms) zero a e n =
-    let s = s.series.value in record {
-      master = m;
-      stands = refl;
-      event = given-own (clocks_in s.zones) s.window s.event.now s.since s.replaced (series_left s) a n
-          ∙ ap (λ (r : Recurring). r.event) (same-master e);
-    }
+    record { master = m; stands = refl; event = left-own s.series.value a n ∙ ap (λ (r : Recurring). r.event) (same-master e) }
 master-in (Singles s ∷ ps) (m ∷ ms) zero a e n = let no : Once ∷ flat_map part_sources ps ≡ Of m ∷ map Of ms = e in absurd cc
 master-in (Singles s ∷ ps) [] i a e n = absurd (no-source e)
 master-in (Series s ∷ ps) [] i a e n = absurd (no-source e)

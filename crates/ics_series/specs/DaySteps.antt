@@ -17,6 +17,7 @@ use Rattle.ics_days.specs.NearDays.{first_near, last_near, IsNearDay}
 use Rattle.ics_listing.specs.Merges.{merge_all, merge_holds, merge_looked}
 use Rattle.ics_series.specs.AgendaParts.{part_sources}
 use Rattle.ics_series.specs.PlacedEvents.{Placed}
+use Rattle.ics_series.specs.Replaced.{AreReplaced}
 use Rattle.ics_series.specs.Sources.{master_at, master_of, recurring, AreSources}
 use Rattle.ics_listing.specs.FeedSources.{Recurring, Source}
 use Rattle.ics_series.specs.Versions.{by_subject}
@@ -78,6 +79,7 @@ pub record IsDayMaster (s : Scope) (day : ℤ) (m : Recurring) : Type 0 where
   pub by : Placed
   pub is : IsMaster s.files s.display by
   pub searched : IsSearched s day (master_at s.files s.display by) m
+  pub replaced : AreReplaced s.files s.display by.event.uid m.replaced
 
 -- it is so of the masters among these sources
 abbrev pub AreDayMasters : Scope → ℤ → List Source → Type 0

@@ -56,6 +56,7 @@ pub mod OnDays
 pub mod Overridden
 pub mod AgendaParts
 pub mod PlacedEvents
+pub mod Replaced
 pub mod Singles
 pub mod Sources
 pub mod Spots

@@ -10,9 +10,11 @@ use Rattle.ics_file.specs.File.{FileSaid}
 use Rattle.ics_listing.specs.declared.window.Window.{Window}
 use Rattle.ics_series.specs.Chosen.{IsMaster}
 use Rattle.ics_listing.specs.FileClocks.{Clock}
-use Rattle.ics_listing.specs.Entry.{Rank}
+use Rattle.ics_listing.specs.Entry.{Entry, Rank}
+use Rattle.ics_listing.specs.Listing.{IsIn}
 use Rattle.ics_series.specs.HeldMost.{Master}
 use Rattle.ics_series.specs.PlacedEvents.{Placed, clocks_at}
+use Rattle.ics_series.specs.Replaced.{AreReplaced}
 use Rattle.ics_listing.specs.Rising.{Rises, Rises-prop}
 use Rattle.ics_starts.specs.SingleEvents.{is_single}
 use Rattle.ics_listing.specs.FeedSources.{Recurring, Source}
@@ -56,7 +58,7 @@ abbrev pub IsFrom : Option Rank → ℤ → Type 0
 IsFrom None since = Unit {0}
 IsFrom (Some key) since = key.start ≤ℤ since
 
--- the master of its UID, read by the clocks of its file
+-- the master of its UID, read by the clocks of its file, but for what overrides replace
 pub record IsMasterOf (files : List FileSaid) (display : Clock) (w : Window) (after : Option Rank) (m : Recurring) : Type 0 where
   pub by : Placed
   pub is : IsMaster files display by
@@ -64,8 +66,13 @@ pub record IsMasterOf (files : List FileSaid) (display : Clock) (w : Window) (af
   pub clocks : m.clocks ≡ clocks_at files display by.file
   pub window : m.window ≡ w
   pub since : IsFrom after m.since
+  pub replaced : AreReplaced files display by.event.uid m.replaced
 
 -- what the listing of a window belongs to: the events that start once, and masters that recur, each with a UID of its own
 pub record AreSources (files : List FileSaid) (display : Clock) (w : Window) (after : Option Rank) (sources : List Source) : Type 0 where
   pub apart : AreApart sources
   pub each : AllByRecursion (IsMasterOf files display w after) (recurring sources)
+
+-- what is to come of a master begins at the instant from which that is listed, or later
+abbrev pub ComeSince : List Source → List Entry → Type 0
+ComeSince sources coming = (m : Recurring) (o : Entry) → IsIn m (recurring sources) → IsIn o coming → o.event ≡ m.event → m.since ≤ℤ o.start

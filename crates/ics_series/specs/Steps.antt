@@ -28,12 +28,13 @@ IsLookedFrom m a =
 abbrev pub IsEarlier : ℤ → ℤ → ℕ → Type 0
 IsEarlier seconds t b = ((t +ℤ seconds) +ℤ pos (year_number 1_970)) ≤ℤ pos b
 
--- it is three days or more past the start of an occurrence of the master still to come that begins at the instant of DTSTART's local or of one
--- that the rule keeps
+-- it is three days or more past the start of an occurrence of the master still to come that begins at the instant from which the master's are listed
+-- or later, and at that of DTSTART's local or of one that the rule keeps
 pub record IsPastStart (m : Recurring) (coming : List Entry) (b : ℕ) : Type 0 where
   pub occurrence : Entry
   pub stands : IsIn occurrence coming
   pub of : occurrence.event ≡ m.event
+  pub from : m.since ≤ℤ occurrence.start
   pub local : Local
   pub kept : IsKeptAt m.clocks m.event local occurrence.start
   pub past : IsEarlier (whole_days 3) occurrence.start b

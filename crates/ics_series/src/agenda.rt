@@ -5,7 +5,7 @@ ghost use Rattle.std.specs.List.Sorted.{IsSorted};
 ghost use Rattle.std.specs.Option.{option_map};
 ghost use Rattle.std.specs.Ordering.{on};
 ghost use Rattle.ics_file.specs.File.{said_by};
-ghost use Rattle.ics_listing.specs.After.{after_key, is_after};
+ghost use Rattle.ics_listing.specs.After.{after_key};
 ghost use Rattle.ics_starts.specs.Clocks.{display_clock};
 ghost use Rattle.ics_listing.specs.Entry.{Entry, entry_cmp, entry_of, key_rank, rank_of};
 ghost use Rattle.ics_series.specs.HeldMost.{held_most};
@@ -14,19 +14,18 @@ ghost use Rattle.ics_listing.specs.Leads.{IsFresh};
 ghost use Rattle.ics_listing.specs.Listing.{IsIn, IsListing};
 ghost use Rattle.ics_series.specs.Inner.Kept.{AreKept};
 ghost use Rattle.ics_series.specs.Inner.Marks.{AreMarks};
-ghost use Rattle.ics_series.specs.Inner.Shared.{AreShared};
 ghost use Rattle.ics_series.specs.Meets.{IsListed, IsToCome};
 ghost use Rattle.ics_listing.specs.Merges.{merge_all, merge_coming, merge_holds, merge_looked};
 ghost use Rattle.ics_listing.specs.Inner.MergesLaws.{rises-merge};
 ghost use Rattle.ics_series.specs.Occurs.{Occurs};
 ghost use Rattle.ics_series.specs.Overridden.{is_kept};
 ghost use Rattle.ics_series.specs.AgendaParts.{part_coming, part_near, part_sources, IsFirstPart};
-ghost use Rattle.ics_series.specs.Sources.{master_of, recurring, AreApart, AreApart-prop, AreSources};
+ghost use Rattle.ics_series.specs.Sources.{master_of, recurring, AreApart, AreApart-prop, AreSources, ComeSince};
 ghost use Rattle.ics_listing.specs.FeedSources.{Recurring};
 ghost use Rattle.ics_series.specs.Steps.{HasStepBound};
 ghost use Rattle.ics_listing.specs.Tokens.{IsKey};
-ghost use Rattle.ics_days.specs.NearPlaces.{AreNear, AreSameBut};
-ghost use Rattle.ics_series.specs.Inner.Spans.{AreMovedOn, AreSpans, IsStartedBy};
+ghost use Rattle.ics_days.specs.NearPlaces.{AreNear};
+ghost use Rattle.ics_series.specs.Inner.Spans.{AreSpansBehind};
 ghost use Rattle.ics_series.specs.Versions.{is_override, seen, subject_cmp, subject_seen, AreChosen};
 
 use crate::chosen::{chosen, is_named, overrides};
@@ -34,10 +33,11 @@ use crate::masters::push_series;
 use crate::part::Part;
 use crate::singles::Singles;
 use crate::version::{Subject, Version};
+use ics_continued::Continued;
 use ics_days::{Span, all_places};
 use ics_file::FileEvents;
 use ics_listing::{Coming, Feed, Key, Lead, Merge, Occurrence, Window};
-use ics_starts::{Mark, Replaced, Series};
+use ics_starts::Mark;
 use ics_values::Moment;
 use ics_zone::Display;
 use std::alloc::{AllocError, Global};
@@ -49,8 +49,6 @@ use std::alloc::{AllocError, Global};
 #[derive(Drop)]
 pub struct Agenda<'a> {
     merge: Merge<'a, Part<'a>>,
-    // Whether a master that recurs was searched for it.
-    recurs: bool,
     ghost apart: { AreApart (merge_all part_sources merge) } by { AreApart-prop (merge_all part_sources merge) },
 }
 
@@ -72,16 +70,16 @@ impl<'a> Agenda<'a> {
             × (⟦<Agenda<'a> as Coming>⟧.coming agenda ≡ after_key (option_map (λ key. key_rank key.now) after.entry) list)) }
         ensures sources { IfOk result (λ agenda. AreSources (map said_by files.entry.now) (display_clock display.entry.now) window
             (option_map (λ key. key_rank key.now) after.entry) (⟦<Agenda<'a> as Coming>⟧.sources agenda)) }
+        ensures since { IfOk result (λ agenda. ComeSince (⟦<Agenda<'a> as Coming>⟧.sources agenda) (⟦<Agenda<'a> as Coming>⟧.coming agenda)) }
         ensures keys { IfOk result (λ _. (o : Entry)
             → Occurs (map said_by files.entry.now) (display_clock display.entry.now) o → IsKey (rank_of o)) }
     {
         let chosen = chosen(alloc, files, display)?;
         let overrides = overrides(alloc, &chosen)?;
         let near = all_places(alloc, chosen.len())?;
-        let mut spans = Vec::new(alloc);
+        let spans = Vec::new(alloc);
         let mut marks = Vec::new(alloc);
         let mut kept = Vec::new(alloc);
-        let mut shared = Vec::new(alloc);
         let mut agenda: Agenda<'a> = Agenda::none(alloc);
         agenda.search(
             alloc,
@@ -91,20 +89,19 @@ impl<'a> Agenda<'a> {
             &chosen,
             &overrides,
             &near,
-            &mut spans,
+            &spans,
             &mut marks,
             &mut kept,
-            &mut shared,
             window,
             after,
-            None,
+            Moment::MAX,
         )?;
         Ok(agenda)
     }
 
     /// Searches those of the versions that count, which are at the near places, in place of what was searched before. The leads, of which there
-    /// are none yet, may have room. The spans, if there are any, say which of the versions need not be read, and are moved on where nothing is that
-    /// begins at the floor or later. The marks say from where on rules under COUNT are searched.
+    /// are none yet, may have room. The spans, if there are any, say which of the versions need not be read. The marks say from where on rules under
+    /// COUNT are searched. What ends after `by` may meet a later window.
     pub(crate) fn search(
         &mut self,
         alloc: Global,
@@ -114,35 +111,31 @@ impl<'a> Agenda<'a> {
         chosen: &[Version<'a>],
         overrides: &[Version<'a>],
         near: &[usize],
-        spans: &mut Vec<Span>,
+        spans: &[Span],
         marks: &mut Vec<Option<Mark>>,
-        kept: &mut Vec<Option<Box<Series<'a>>>>,
-        shared: &mut Vec<Option<Replaced>>,
+        kept: &mut Vec<Option<Box<Continued<'a>>>>,
         window: Window,
         after: Option<&Key>,
-        floor: Option<Moment>,
+        by: Moment,
     ) -> Result<(), AllocError>
         requires leads { leads.items ≡ [] }
         requires chosen { AreChosen (map said_by files.now) (display_clock display.now) chosen.now }
-        requires spans { AreSpans (map said_by files.now) (display_clock display.now) window floor (map seen chosen.now) spans.old.items }
+        requires spans { AreSpansBehind (map said_by files.now) (display_clock display.now) window (option_map (λ key. key_rank key.now) after)
+            (map seen chosen.now) spans.now }
         requires overrides { map seen overrides.now ≡ filter is_override (map seen chosen.now) }
-        requires near { AreNear spans.old.items window (length chosen.now) near.now }
-        requires floor { (o : Entry) → is_after (option_map (λ key. key_rank key.now) after) o ≡ true → IsStartedBy floor o }
+        requires near { AreNear spans.now window (length chosen.now) near.now }
         requires marks { AreMarks (map said_by files.now) (map seen chosen.now) marks.old.items }
         requires kept { AreKept (map said_by files.now) (display_clock display.now) kept.old.items }
-        requires shared { AreShared (map seen chosen.now) shared.old.items }
-        ensures spans { AreMovedOn (map said_by files.entry.now) (display_clock display.entry.now) window floor (map seen chosen.entry.now)
-            spans.old.items spans.new.items }
-        ensures others { AreSameBut near.entry.now spans.old.items spans.new.items }
         ensures marks { AreMarks (map said_by files.entry.now) (map seen chosen.entry.now) marks.new.items }
         ensures kept { AreKept (map said_by files.entry.now) (display_clock display.entry.now) kept.new.items }
-        ensures shared { AreShared (map seen chosen.entry.now) shared.new.items }
         ensures listing { OnOk result (IsListing entry_cmp
             (IsToCome (map said_by files.entry.now) (display_clock display.entry.now) window
             (option_map (λ key. key_rank key.now) after.entry))
             (⟦<Agenda<'a> as Coming>⟧.coming self.new)) }
         ensures sources { OnOk result (AreSources (map said_by files.entry.now) (display_clock display.entry.now) window
             (option_map (λ key. key_rank key.now) after.entry) (⟦<Agenda<'a> as Coming>⟧.sources self.new)) }
+        ensures since { kept.old.items ≡ [] → OnOk result (ComeSince (⟦<Agenda<'a> as Coming>⟧.sources self.new)
+            (⟦<Agenda<'a> as Coming>⟧.coming self.new)) }
         ensures err { OnErr result (self.new.merge ≡ self.old.merge) }
     {
         let singles = Singles::new(
@@ -151,12 +144,9 @@ impl<'a> Agenda<'a> {
         push_first(&mut leads, singles)?;
         let sorted_from = leads.len();
         push_series(
-            alloc, &mut leads, files, display, chosen, near, spans, marks, kept, shared, window,
-            after, floor,
+            alloc, &mut leads, files, display, chosen, near, spans, marks, kept, window, after, by,
         )?;
-        let recurs = leads.len() > sorted_from;
         self.merge.begin(alloc, leads, sorted_from, window.from)?;
-        self.recurs = recurs;
         Ok(())
     }
 
@@ -167,13 +157,7 @@ impl<'a> Agenda<'a> {
     {
         Agenda {
             merge: Merge::none(alloc),
-            recurs: false,
         }
-    }
-
-    /// Whether a master that recurs was searched for it.
-    pub(crate) fn recurs(&self) -> bool {
-        self.recurs
     }
 
     /// Drops what is still to come, and gives back the feeds that it was searched by. It allocates nothing.

@@ -1,5 +1,5 @@
 //! The listing of a window under each day.
-ghost use Rattle.std.specs.Prelude.{◌≡◌, ◌⊎◌, ◌≤◌, ◌+◌, ◌-◌, ◌^◌, ◌≤ℤ◌, ◌<ℤ◌, ◌+ℤ◌, ◌-ℤ◌, ℕ, ℤ, pos, false, true, length, min};
+ghost use Rattle.std.specs.Prelude.{◌≡◌, ◌⊎◌, ◌≤◌, ◌+◌, ◌-◌, ◌^◌, ◌≤ℤ◌, ◌<ℤ◌, ◌-ℤ◌, ℕ, ℤ, pos, false, true, length, min};
 ghost use Rattle.std.specs.Prelude.{List, [], filter, map, IfOk, IfSome, OnErr, OnOk, None};
 ghost use Rattle.std.specs.Prelude.{int_lt};
 ghost use Rattle.std.specs.Option.{option_map};
@@ -15,22 +15,18 @@ ghost use Rattle.ics_series.specs.DaySteps.{agenda_holds, agenda_looked, agenda_
 ghost use Rattle.ics_series.specs.DaySteps.{AreMasters, IsNearAgenda, IsPastAgenda, day_of_key, HasDaysBound, IsLookedBefore};
 ghost use Rattle.ics_days.specs.NearDays.{first_near, last_near, HasOffsets, IsNearDay};
 ghost use Rattle.ics_days.specs.Offsets.{AreOffsets};
-ghost use Rattle.ics_listing.specs.Entry.{entry_of, key_rank, Entry};
-ghost use Rattle.ics_starts.specs.SingleEvents.{is_single};
+ghost use Rattle.ics_listing.specs.Entry.{key_rank, Entry};
 ghost use Rattle.ics_zone.specs.Seconds.{IsDay};
 ghost use Rattle.ics_series.specs.HeldMost.{held_most};
 ghost use Rattle.ics_listing.specs.Listing.{IsIn, IsListing};
-ghost use Rattle.ics_listing.specs.Merges.{merge_coming};
-ghost use Rattle.ics_series.specs.AgendaParts.{part_coming};
-ghost use Rattle.ics_series.specs.Inner.Ended.{begins_after, end_of, have-ended-prop, HaveEnded};
+ghost use Rattle.ics_series.specs.Inner.Ended.{begins_after};
 ghost use Rattle.ics_series.specs.Inner.Kept.{kept-prop, AreKept};
 ghost use Rattle.ics_series.specs.Inner.Marks.{marks-prop, AreMarks};
-ghost use Rattle.ics_series.specs.Inner.Shared.{shared-prop, AreShared};
 ghost use Rattle.ics_starts.specs.MeetsWindow.{Meets};
 ghost use Rattle.ics_series.specs.PlacedEvents.{Placed};
 ghost use Rattle.ics_days.specs.HasPlaces.{count_of, places-prop, HasPlaces, HasPlacesAfter};
 ghost use Rattle.ics_series.specs.Inner.SpanLaws.{labels-set, offsets-prop, spans-after-prop, those-chosen-prop, AreThoseChosen};
-ghost use Rattle.ics_days.specs.Spans.{always, can_meet};
+ghost use Rattle.ics_days.specs.Spans.{can_meet};
 ghost use Rattle.ics_series.specs.Inner.Spans.{floor_of, span_at, AreSpansAfter, IsStartedBy};
 ghost use Rattle.ics_listing.specs.Tokens.{IsDayKey};
 ghost use Rattle.ics_series.specs.Versions.{is_override, seen, AreChosen};
@@ -42,15 +38,15 @@ use crate::chosen::{chosen, overrides};
 use crate::kept::{add_kept, give_back};
 use crate::marks::add_places;
 use crate::part::Part;
-use crate::shared::places_for;
 use crate::span::spans;
 use crate::version::Version;
+use ics_continued::Continued;
 use ics_days::{
     NearPlaces, Span, bounds_in, date_at, first_shown, is_today, last_near, last_shown, near_day,
 };
 use ics_file::FileEvents;
 use ics_listing::{DayKey, Feed, Key, Lead, Occurrence, Window};
-use ics_starts::{Mark, Replaced, Series, is_single};
+use ics_starts::Mark;
 use ics_values::{Local, Moment};
 use ics_zone::{Bounds, Display};
 use std::alloc::{AllocError, Global};
@@ -85,9 +81,7 @@ pub struct Days<'a> {
     // Where the searches of the rules began near the day before.
     marks: Vec<Option<Mark>>,
     // The series of the days before, which rest.
-    kept: Vec<Option<Box<Series<'a>>>>,
-    // The instances of the masters that overrides replace, as far as a day asked for them.
-    shared: Vec<Option<Replaced>>,
+    kept: Vec<Option<Box<Continued<'a>>>>,
     today: Today<'a>,
     ghost chosen: { AreThoseChosen (map said_by files.now) (display_clock display.now) versions.items } by { those-chosen-prop (map said_by files.now)
         (display_clock display.now) versions.items },
@@ -104,7 +98,6 @@ pub struct Days<'a> {
         (map seen versions.items) marks.items },
     ghost known: { AreKept (map said_by files.now) (display_clock display.now) kept.items } by { kept-prop (map said_by files.now)
         (display_clock display.now) kept.items },
-    ghost sharing: { AreShared (map seen versions.items) shared.items } by { shared-prop (map seen versions.items) shared.items },
     ghost not_before: { first_near window bounds ≤ℤ today.day },
     ghost begun: { day_of_key (first_near window bounds) after ≤ℤ today.day },
     ghost masters: { ∥ AreDayMasters (scope_in (map said_by files.now) (display_clock display.now) bounds window after) today.day
@@ -115,10 +108,6 @@ pub struct Days<'a> {
     ghost shown: { (t : ℤ) → window.from ≤ℤ t → t <ℤ window.to → date_at (display_clock display.now) t ≤ℤ last },
     ghost within: { last ≤ℤ last_near window bounds },
     ghost below: { floor.start ≡ window.from -ℤ pos 1 },
-    ghost ended: { HaveEnded (map said_by files.now) (display_clock display.now) (merge_coming part_coming today.agenda.merge)
-        (begins_after bounds today.day) today.lasts (agenda_sources today.agenda) } by { have-ended-prop (map said_by files.now)
-            (display_clock display.now) (merge_coming part_coming today.agenda.merge) (begins_after bounds today.day) today.lasts
-            (agenda_sources today.agenda) },
 }
 
 // A day of a listing.
@@ -129,9 +118,6 @@ struct Today<'a> {
     agenda: Agenda<'a>,
     // How many periods of rules were looked at for the days before and, once the agenda was dropped, for this one.
     looked: u64,
-    // The least start of what recurs, was given of it and lasts to what a later day can hold, or the last instant of all if nothing does. It is the first
-    // where that is not known or not asked.
-    lasts: Moment,
 }
 
 impl<'a> Days<'a> {
@@ -157,34 +143,20 @@ impl<'a> Days<'a> {
     {
         let versions = chosen(alloc, files, display)?;
         let overrides = overrides(alloc, &versions)?;
-        let mut spans = spans(alloc, files, display, &versions, &window)?;
+        let spans = spans(alloc, files, display, &versions, &window)?;
         let mut near = NearPlaces::new(alloc, &spans)?;
         let mut marks = Vec::new(alloc);
         add_places(&mut marks, versions.len())?;
         let mut kept = Vec::new(alloc);
         add_kept(&mut kept, versions.len())?;
-        let mut shared = places_for(alloc, &versions, &overrides)?;
         let bounds = bounds_in(display, &window);
         let last = last_shown(display, bounds, &window);
         let floor = key_below(alloc, &window);
         let (day, key) = begin(display, bounds, &window, after, &floor);
         let agenda = Days::agenda_of(
-            alloc,
-            files,
-            display,
-            &versions,
-            &overrides,
-            &mut near,
-            &mut spans,
-            &mut marks,
-            &mut kept,
-            &mut shared,
-            &window,
-            bounds,
-            day,
-            key,
+            alloc, files, display, &versions, &overrides, &mut near, &spans, &mut marks, &mut kept,
+            &window, bounds, day, key,
         )?;
-        let lasts = none_given(key, agenda.recurs());
         Ok(Days {
             alloc,
             files,
@@ -200,12 +172,10 @@ impl<'a> Days<'a> {
             places: near,
             marks,
             kept,
-            shared,
             today: Today {
                 day,
                 agenda,
                 looked: 0,
-                lasts,
             },
         })
     }
@@ -218,10 +188,9 @@ impl<'a> Days<'a> {
         versions: &[Version<'a>],
         overrides: &[Version<'a>],
         places: &mut NearPlaces,
-        spans: &mut Vec<Span>,
+        spans: &[Span],
         marks: &mut Vec<Option<Mark>>,
-        kept: &mut Vec<Option<Box<Series<'a>>>>,
-        shared: &mut Vec<Option<Replaced>>,
+        kept: &mut Vec<Option<Box<Continued<'a>>>>,
         window: &Window,
         bounds: Bounds,
         day: i32,
@@ -230,21 +199,18 @@ impl<'a> Days<'a> {
         requires chosen { AreChosen (map said_by files.now) (display_clock display.now) versions.now }
         requires overrides { map seen overrides.now ≡ filter is_override (map seen versions.now) }
         requires count { count_of places.old ≡ length versions.now }
-        requires places { (w : Window) → HasPlaces places.old spans.old.items w }
-        requires spans { spans.old.items ≡ map (span_at (map said_by files.now) (display_clock display.now) window.now) (map seen versions.now) }
+        requires places { (w : Window) → HasPlaces places.old spans.now w }
+        requires spans { spans.now ≡ map (span_at (map said_by files.now) (display_clock display.now) window.now) (map seen versions.now) }
         requires marks { AreMarks (map said_by files.now) (map seen versions.now) marks.old.items }
         requires kept { AreKept (map said_by files.now) (display_clock display.now) kept.old.items }
-        requires shared { AreShared (map seen versions.now) shared.old.items }
         requires bounded { HasOffsets (display_clock display.now) window.now bounds }
         requires first { first_near window.now bounds ≤ℤ day }
-        ensures size { length spans.new.items ≡ length spans.old.items }
         ensures count { count_of places.new ≡ count_of places.old }
-        ensures places { HasPlacesAfter window.now bounds day places.new spans.new.items }
+        ensures places { HasPlacesAfter window.now bounds day places.new spans.entry.now }
         ensures spans { AreSpansAfter (map said_by files.entry.now) (display_clock display.entry.now) bounds window.now day
-            (map seen versions.entry.now) spans.new.items }
+            (map seen versions.entry.now) spans.entry.now }
         ensures marks { AreMarks (map said_by files.entry.now) (map seen versions.entry.now) marks.new.items }
         ensures kept { AreKept (map said_by files.entry.now) (display_clock display.entry.now) kept.new.items }
-        ensures shared { AreShared (map seen versions.entry.now) shared.new.items }
         ensures agenda { IfOk result (λ agenda. IsNearAgenda (map said_by files.entry.now) (display_clock display.entry.now)
             (IsNearDay (display_clock display.entry.now) window.now bounds day)
             (option_map (λ key. key_rank key.now) key.entry) (agenda_coming agenda) (agenda_sources agenda)
@@ -267,10 +233,9 @@ impl<'a> Days<'a> {
             spans,
             marks,
             kept,
-            shared,
             near,
             key,
-            None,
+            begin_after(bounds, day),
         )?;
         Ok(agenda)
     }
@@ -336,12 +301,6 @@ impl<'a> Days<'a> {
         ensures err { (list : List OnDay) → IsAhead self.old list → OnErr result (IsAhead self.new list) }
     {
         while let Some(occurrence) = self.today.agenda.next()? {
-            self.today.lasts = least_lasting(
-                self.today.lasts,
-                self.bounds,
-                self.today.day,
-                &occurrence,
-            );
             let today = is_today(
                 self.display,
                 &self.window,
@@ -373,7 +332,7 @@ impl<'a> Days<'a> {
     {
         let looked = self.today.looked.saturating_add(self.today.agenda.steps());
         self.today.looked = looked;
-        let least = self.today.lasts;
+        let by = begin_after(self.bounds, self.today.day);
         let mut leads = self.today.agenda.end(self.alloc);
         let places = &self.places;
         give_back(
@@ -383,7 +342,8 @@ impl<'a> Days<'a> {
             &mut self.spans,
             &mut self.marks,
             &mut leads,
-            least,
+            floor_of(&self.window),
+            by,
         );
         leads
     }
@@ -421,16 +381,14 @@ impl<'a> Days<'a> {
             &self.versions,
             &self.overrides,
             &self.places.near,
-            &mut self.spans,
+            &self.spans,
             &mut self.marks,
             &mut self.kept,
-            &mut self.shared,
             near,
             key,
-            floor_of(&self.window),
+            begin_after(self.bounds, day),
         )?;
         self.today.day = day;
-        self.today.lasts = none_given(key, self.today.agenda.recurs());
         Ok(())
     }
 }
@@ -487,38 +445,6 @@ fn begin_after(bounds: Bounds, day: i32) -> Moment
 {
     let next = i64::from(day) + 1;
     next * DAY - bounds.most
-}
-
-/// What stands for the least start of what recurs, was given behind a key and lasts, before anything was given: the first instant of all with
-/// a key, or where nothing recurs.
-fn none_given(key: Option<&Key>, recurs: bool) -> Moment
-    ensures { always.first <ℤ result → option_map (λ key. key_rank key.now) key.entry ≡ None }
-{
-    match key {
-        None if recurs => Moment::MAX,
-        _ => Moment::MIN,
-    }
-}
-
-/// The lesser of an instant and of the start of an occurrence, if its event recurs and it lasts to what a window can hold near a day after this one. None
-/// is less than the first of all.
-fn least_lasting(lasts: Moment, bounds: Bounds, day: i32, occurrence: &Occurrence<'_>) -> Moment
-    requires { AreOffsets bounds }
-    ensures least { result ≤ℤ lasts }
-    ensures start { always.first <ℤ result → is_single occurrence.now.event.now ≡ false
-        → begins_after bounds day <ℤ end_of (entry_of occurrence.now) → result ≤ℤ occurrence.now.start }
-{
-    if lasts <= occurrence.start {
-        return lasts;
-    }
-    let after = begin_after(bounds, day);
-    if occurrence.finish <= after && occurrence.start < after {
-        return lasts;
-    }
-    if is_single(occurrence.event) {
-        return lasts;
-    }
-    occurrence.start
 }
 
 /// The day with which a listing begins, and the key after which it does there.

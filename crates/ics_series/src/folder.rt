@@ -14,7 +14,7 @@ ghost use Rattle.ics_listing.specs.Listing.{IsListing};
 ghost use Rattle.ics_series.specs.Meets.{IsListed, IsToCome};
 ghost use Rattle.ics_series.specs.Occurs.{Occurs};
 ghost use Rattle.ics_series.specs.PlacedEvents.{Placed};
-ghost use Rattle.ics_series.specs.Sources.{AreSources};
+ghost use Rattle.ics_series.specs.Sources.{AreSources, ComeSince};
 ghost use Rattle.ics_listing.specs.Tokens.{IsDayKey, IsKey};
 
 use crate::agenda::Agenda;
@@ -84,6 +84,7 @@ impl Folder {
             × (⟦<Agenda<'a> as Coming>⟧.coming agenda ≡ after_key (option_map (λ key. key_rank key.now) after.entry) list)) }
         ensures sources { IfOk result (λ agenda. AreSources (map said_by self.entry.now.files) (display_clock self.entry.now.display) window
             (option_map (λ key. key_rank key.now) after.entry) (⟦<Agenda<'a> as Coming>⟧.sources agenda)) }
+        ensures since { IfOk result (λ agenda. ComeSince (⟦<Agenda<'a> as Coming>⟧.sources agenda) (⟦<Agenda<'a> as Coming>⟧.coming agenda)) }
         ensures keys { IfOk result (λ _. (o : Entry)
             → Occurs (map said_by self.entry.now.files) (display_clock self.entry.now.display) o → IsKey (rank_of o)) }
     {

@@ -1,5 +1,5 @@
 //! The series of masters that rest from one day to another, each at the place of its version.
-ghost use Rattle.std.specs.Prelude.{◌≡◌, [], List, Some};
+ghost use Rattle.std.specs.Prelude.{◌≡◌, [], List, None, Some};
 ghost use Rattle.std.specs.List.{AllByRecursion};
 ghost use Rattle.ics_file.specs.File.{FileSaid};
 ghost use Rattle.ics_listing.specs.FileClocks.{Clock};
@@ -11,16 +11,17 @@ ghost use Rattle.ics_series.specs.PlacedEvents.{Placed};
 
 use crate::part::{Part, PlacedSeries};
 use crate::version::Version;
+use ics_continued::Continued;
 use ics_days::Span;
 use ics_event::Event;
 use ics_listing::Lead;
-use ics_starts::{Mark, Series};
+use ics_starts::Mark;
 use ics_values::Moment;
 use std::alloc::AllocError;
 
 /// Makes places for them, at which none rests.
 pub(crate) fn add_kept<'a>(
-    kept: &mut Vec<Option<Box<Series<'a>>>>,
+    kept: &mut Vec<Option<Box<Continued<'a>>>>,
     count: usize,
 ) -> Result<(), AllocError>
     ensures { (files : List FileSaid) (display : Clock) → AreKept files display kept.old.items → AreKept files display kept.new.items }
@@ -32,9 +33,13 @@ pub(crate) fn add_kept<'a>(
 }
 
 /// Takes the series that rests at a place.
-fn take_at<'a>(kept: &mut Vec<Option<Box<Series<'a>>>>, place: usize) -> Option<Box<Series<'a>>>
+fn take_at<'a>(
+    kept: &mut Vec<Option<Box<Continued<'a>>>>,
+    place: usize,
+) -> Option<Box<Continued<'a>>>
     ensures rest { (files : List FileSaid) (display : Clock) → AreKept files display kept.old.items → AreKept files display kept.new.items }
     ensures taken { (files : List FileSaid) (display : Clock) → AreKept files display kept.old.items → IsKeptIn files display result }
+    ensures none { kept.old.items ≡ [] → (kept.new.items ≡ []) × (result ≡ None) }
 {
     if place < kept.len() {
         kept[place].take()
@@ -45,13 +50,14 @@ fn take_at<'a>(kept: &mut Vec<Option<Box<Series<'a>>>>, place: usize) -> Option<
 
 /// The series of a master, whose place this is, if it rests there.
 pub(crate) fn take_kept<'a>(
-    kept: &mut Vec<Option<Box<Series<'a>>>>,
+    kept: &mut Vec<Option<Box<Continued<'a>>>>,
     place: usize,
     event: &'a Event,
-) -> Option<Box<Series<'a>>>
+) -> Option<Box<Continued<'a>>>
     ensures rest { (files : List FileSaid) (display : Clock) → AreKept files display kept.old.items → AreKept files display kept.new.items }
     ensures of { (files : List FileSaid) (display : Clock) → AreKept files display kept.old.items → (by : Placed) → IsMaster files display by
-        → by.event ≡ event.now → IsSeriesOf event.now result }
+        → by.event ≡ event.now → IsSeriesOf files display by result }
+    ensures none { kept.old.items ≡ [] → (kept.new.items ≡ []) × (result ≡ None) }
 {
     if let Some(known) = take_at(kept, place) {
         if known.event().uid.as_slice() == event.uid.as_slice() {
@@ -62,7 +68,7 @@ pub(crate) fn take_kept<'a>(
 }
 
 /// Puts the series of a master at its place, where it rests.
-fn put_at<'a>(kept: &mut Vec<Option<Box<Series<'a>>>>, placed: PlacedSeries<'a>)
+fn put_at<'a>(kept: &mut Vec<Option<Box<Continued<'a>>>>, placed: PlacedSeries<'a>)
     ensures { (files : List FileSaid) (display : Clock) → AreKept files display kept.old.items → IsKeptIn files display (Some placed.entry.series)
         → AreKept files display kept.new.items }
 {
@@ -73,27 +79,31 @@ fn put_at<'a>(kept: &mut Vec<Option<Box<Series<'a>>>>, placed: PlacedSeries<'a>)
 }
 
 /// Takes the leads of a day that has ended, and keeps their series, each at its place. The spans and the marks are moved on, up to the least start of
-/// what was given and lasts, if that is known.
+/// what ends after an instant.
 #[tactic(auto, using(crate::proofs::OverLemmas::moved_none, crate::proofs::OverLemmas::stay_none))]
 pub(crate) fn give_back<'a>(
-    kept: &mut Vec<Option<Box<Series<'a>>>>,
+    kept: &mut Vec<Option<Box<Continued<'a>>>>,
     versions: &[Version<'a>],
     near: &[usize],
     spans: &mut Vec<Span>,
     marks: &mut Vec<Option<Mark>>,
     leads: &mut Vec<Lead<'a, Part<'a>>>,
-    least: Moment,
+    floor: Option<Moment>,
+    by: Moment,
 )
     ensures kept { (files : List FileSaid) (display : Clock) → AllByRecursion (λ l. IsPartOf files display l.feed) leads.old.items
         → AreKept files display kept.old.items → AreKept files display kept.new.items }
     ensures spans { AreMovedOff versions.entry.now near.entry.now
-        (λ s day. AllByRecursion (λ l. IsOverPart s day least l.feed) leads.old.items) spans.old.items spans.new.items }
+        (λ s day. AllByRecursion (λ l. IsOverPart s day floor by l.feed) leads.old.items) spans.old.items spans.new.items }
     ensures marks { StayMarks versions.entry.now (λ files display. AllByRecursion (λ l. IsPartOf files display l.feed) leads.old.items)
         marks.old.items marks.new.items }
     ensures leads { leads.new.items ≡ [] }
 {
     while let Some(lead) = leads.pop() {
-        if let Some(placed) = lead.into_feed().end(versions, near, spans, marks, least) {
+        if let Some(placed) = lead
+            .into_feed()
+            .end(versions, near, spans, marks, floor, by)
+        {
             put_at(kept, placed);
         }
     }

@@ -12,7 +12,6 @@ mod marks;
 mod masters;
 mod part;
 mod prepare;
-mod shared;
 mod singles;
 mod span;
 mod spot;

@@ -1,5 +1,5 @@
 //! The masters that recur, each of them as a feed.
-ghost use Rattle.std.specs.Prelude.{◌≡◌, ◌<◌, ◌≤◌, [], ◌∷◌, false, length, map, slice_get, true, IfOk, MatchOption, None, Some};
+ghost use Rattle.std.specs.Prelude.{◌≡◌, ◌<◌, ◌<ℤ◌, ◌≤◌, ◌≤ℤ◌, [], ◌∷◌, false, length, map, slice_get, true, IfOk, MatchOption, None, Some};
 ghost use Rattle.std.specs.List.{filter_map, flat_map, AllByRecursion};
 ghost use Rattle.std.specs.List.Sorted.{IsPartitionedBy, IsPartitionPoint};
 ghost use Rattle.std.specs.Option.{option_map};
@@ -7,41 +7,41 @@ ghost use Rattle.std.specs.Ordering.{on};
 ghost use Rattle.std.specs.Str.{bytes_eq};
 ghost use Rattle.ics_file.specs.File.{said_by};
 ghost use Rattle.ics_starts.specs.Clocks.{display_clock};
-ghost use Rattle.ics_listing.specs.After.{is_after};
 ghost use Rattle.ics_listing.specs.Entry.{entry_cmp, key_rank, Entry};
 ghost use Rattle.ics_listing.specs.Leads.{IsFresh};
 ghost use Rattle.ics_listing.specs.Listing.{IsIn, IsListing};
 ghost use Rattle.ics_listing.specs.Rising.{Rises};
-ghost use Rattle.ics_series.specs.Inner.Kept.{AreKept, IsPartOf, IsSeriesOf};
+ghost use Rattle.ics_series.specs.Inner.Kept.{AreKept, IsPartOf};
 ghost use Rattle.ics_series.specs.Inner.Ended.{AreMovedOff, IsMasterAt, IsOverPart};
 ghost use Rattle.ics_series.specs.Inner.Marks.{AreMarks, StayMarks};
-ghost use Rattle.ics_series.specs.Inner.Shared.{AreShared};
 ghost use Rattle.ics_starts.specs.RuleMarks.{IsBegun, IsMarkOf};
 ghost use Rattle.ics_series.specs.Inner.Masters.{AreFrom, HasLists, HasSources, IsBehind, IsOfVersion, IsSince, IsSourceOf, Recurs, named_by};
-ghost use Rattle.ics_days.specs.NearPlaces.{AreNear, AreSameBut};
-ghost use Rattle.ics_series.specs.AgendaParts.{part_coming, part_near, part_sources};
-ghost use Rattle.ics_starts.specs.SeriesFeed.{series_left, series_of, series_sources, source_of, IsSameSeries};
+ghost use Rattle.ics_days.specs.NearPlaces.{AreNear};
+ghost use Rattle.ics_series.specs.AgendaParts.{part_coming, part_near, part_sources, ComesSince};
+ghost use Rattle.ics_continued.specs.Continued.{continued_sources, IsContinuedMet};
+ghost use Rattle.ics_continued.specs.Ends.{end_of, first_instant};
+ghost use Rattle.ics_starts.specs.SeriesFeed.{source_of};
 ghost use Rattle.ics_starts.specs.SeriesStarts.{IsSeriesMet};
 ghost use Rattle.ics_starts.specs.SingleEvents.{is_single};
 ghost use Rattle.ics_listing.specs.FeedSources.{Recurring};
 ghost use Rattle.ics_series.specs.Sources.{IsFrom};
 ghost use Rattle.ics_listing.specs.FeedSources.Source.{Of};
 ghost use Rattle.ics_starts.specs.FileZones.{clocks_in, IsOwnEvent};
-ghost use Rattle.ics_series.specs.Inner.Spans.{AreMovedOn, AreSpans, IsMovedOn, IsStartedBy};
+ghost use Rattle.ics_series.specs.Inner.Spans.{AreSpansBehind};
 ghost use Rattle.ics_series.specs.Versions.{seen, subject_cmp, AreChosen};
 ghost use Rattle.ics_series.specs.declared.part.Part.TheVariants as part;
 
 use crate::kept::take_kept;
 use crate::marks::{mark_at, put_mark};
 use crate::part::{Part, PlacedSeries};
-use crate::shared::{found_at, put_shared};
 use crate::span::{is_out, put_span};
 use crate::version::Version;
+use ics_continued::Continued;
 use ics_days::{Span, first_at};
 use ics_event::Event;
 use ics_file::FileEvents;
 use ics_listing::{Coming, Key, Lead, Window};
-use ics_starts::{FileZones, Mark, Replaced, Series, is_single};
+use ics_starts::{FileZones, Mark, Replaced, is_single};
 use ics_values::Moment;
 use ics_zone::Display;
 use std::alloc::{AllocError, Global};
@@ -53,8 +53,7 @@ const WEEK: i64 = 604_800;
 /// Adds a feed for each version that counts and whose event recurs: its occurrences that meet the
 /// window and, with a key, come after it, but for those that overrides replace. Those of versions that are at none
 /// of the near places, or whose spans cannot meet the window, are left out. The searches of rules under COUNT go on from their marks, and
-/// leave a mark where they began. No feed begins before the span of its version. Where nothing of a version
-/// meets the window, its span is moved on.
+/// leave a mark where they began. No feed begins before the span of its version. What ends after `by` may meet a later window.
 pub(crate) fn push_series<'a>(
     alloc: Global,
     leads: &mut Vec<Lead<'a, Part<'a>>>,
@@ -62,27 +61,21 @@ pub(crate) fn push_series<'a>(
     display: &'a Display,
     chosen: &[Version<'_>],
     near: &[usize],
-    spans: &mut Vec<Span>,
+    spans: &[Span],
     marks: &mut Vec<Option<Mark>>,
-    kept: &mut Vec<Option<Box<Series<'a>>>>,
-    shared: &mut Vec<Option<Replaced>>,
+    kept: &mut Vec<Option<Box<Continued<'a>>>>,
     window: Window,
     after: Option<&Key>,
-    floor: Option<Moment>,
+    by: Moment,
 ) -> Result<(), AllocError>
     requires chosen { AreChosen (map said_by files.now) (display_clock display.now) chosen.now }
-    requires spans { AreSpans (map said_by files.now) (display_clock display.now) window floor (map seen chosen.now) spans.old.items }
-    requires near { AreNear spans.old.items window (length chosen.now) near.now }
-    requires floor { (o : Entry) → is_after (option_map (λ key. key_rank key.now) after) o ≡ true → IsStartedBy floor o }
+    requires spans { AreSpansBehind (map said_by files.now) (display_clock display.now) window (option_map (λ key. key_rank key.now) after)
+        (map seen chosen.now) spans.now }
+    requires near { AreNear spans.now window (length chosen.now) near.now }
     requires marks { AreMarks (map said_by files.now) (map seen chosen.now) marks.old.items }
     requires kept { AreKept (map said_by files.now) (display_clock display.now) kept.old.items }
-    requires shared { AreShared (map seen chosen.now) shared.old.items }
-    ensures spans { AreMovedOn (map said_by files.entry.now) (display_clock display.entry.now) window floor (map seen chosen.entry.now)
-        spans.old.items spans.new.items }
-    ensures others { AreSameBut near.entry.now spans.old.items spans.new.items }
     ensures marks { AreMarks (map said_by files.entry.now) (map seen chosen.entry.now) marks.new.items }
     ensures kept { AreKept (map said_by files.entry.now) (display_clock display.entry.now) kept.new.items }
-    ensures shared { AreShared (map seen chosen.entry.now) shared.new.items }
     ensures lists { IfOk result (λ _. HasLists (map said_by files.entry.now) (display_clock display.entry.now) window
         (option_map (λ key. key_rank key.now) after.entry) (map seen chosen.entry.now)
         (map (λ l. part_coming l.feed) leads.old.items) (map (λ l. part_coming l.feed) leads.new.items)) }
@@ -91,6 +84,8 @@ pub(crate) fn push_series<'a>(
         (flat_map (λ l. part_sources l.feed) leads.old.items) (flat_map (λ l. part_sources l.feed) leads.new.items)) }
     ensures fresh { IfOk result (λ _. AllByRecursion (λ l. IsFresh (part_near l.feed) l.head (part_coming l.feed)) leads.old.items
         → AllByRecursion (λ l. IsFresh (part_near l.feed) l.head (part_coming l.feed)) leads.new.items) }
+    ensures since { kept.old.items ≡ [] → IfOk result (λ _. AllByRecursion (λ l. ComesSince l.feed) leads.old.items
+        → AllByRecursion (λ l. ComesSince l.feed) leads.new.items) }
 {
     for place in near {
         let place = *place;
@@ -103,11 +98,10 @@ pub(crate) fn push_series<'a>(
             continue;
         }
         let begin = first_at(spans, place);
-        if let Some(mut series) = series_at(
-            alloc, files, display, chosen, place, marks, kept, shared, window, after, begin,
+        if let Some(series) = series_at(
+            alloc, files, display, chosen, place, marks, kept, window, after, begin, by,
         )? {
             put_mark(marks, place, series.mark());
-            move_on(spans, place, floor, &mut series)?;
             let placed = PlacedSeries {
                 place,
                 event,
@@ -119,43 +113,14 @@ pub(crate) fn push_series<'a>(
     Ok(())
 }
 
-/// Moves on the span at a place, if there is one and nothing of its version meets the window of the
-/// series. Of a series that begins later than the floor and later than the span that is not asked.
-fn move_on(
-    spans: &mut Vec<Span>,
-    place: usize,
-    floor: Option<Moment>,
-    series: &mut Series<'_>,
-) -> Result<(), AllocError>
-    ensures same { IsSameSeries series.old series.new }
-    ensures coming { series_of series.new (series_left series.new) ≡ series_of series.old (series_left series.old) }
-    ensures spans { IsMovedOn (clocks_in series.old.zones) series.old.event.now series.old.window series.old.since
-        floor (series_of series.old (series_left series.old)) spans.old.items place spans.new.items }
-{
-    let begin = first_at(spans, place);
-    let least = floor.unwrap_or(Moment::MIN).max(begin);
-    if least < series.since() || spans.len() <= place {
-        return Ok(());
-    }
-    if series.settle()? {
-        return Ok(());
-    }
-    let span = Span {
-        first: series.quiet(&mut None),
-        last: Moment::MAX,
-    };
-    put_span(spans, place, span);
-    Ok(())
-}
-
 /// Whether the span at a place begins more than a week before an instant. To move it on takes longer than to search a few days once more.
 pub(crate) fn is_far(spans: &[Span], place: usize, moment: Moment) -> bool {
     first_at(spans, place) < moment.saturating_sub(WEEK)
 }
 
-/// Moves on the span at the place of a series with nothing to come, up to the least start of what lasts. It is left where that is not later, the
-/// place is not a near one of its version, or the series begins later than the span. The mark is moved on too, if the series tells one. It is apart
-/// from the end of a day, on most of which nothing recurs.
+/// Moves on the span at the place of a series with nothing to come, up to the least start of what ends after an instant. It is left where that is not
+/// later, the place is not a near one of its version, or the series begins later than the floor and the span. The mark is moved on too, if the series
+/// tells one. It is apart from the end of a day, on most of which nothing recurs.
 #[inline(never)]
 #[tactic(auto, using(crate::proofs::OverLemmas::moved_none, crate::proofs::OverLemmas::stay_none))]
 pub(crate) fn move_off(
@@ -164,14 +129,18 @@ pub(crate) fn move_off(
     spans: &mut Vec<Span>,
     marks: &mut Vec<Option<Mark>>,
     ended: &PlacedSeries<'_>,
+    floor: Option<Moment>,
+    by: Moment,
     least: Moment,
 )
-    ensures spans { AreMovedOff versions.now near.now (λ s day. IsOverPart s day least (part.Series ended.now)) spans.old.items spans.new.items }
+    requires least { first_instant <ℤ least → (o : Entry) → IsContinuedMet ended.now.series.value o → by <ℤ end_of o → least ≤ℤ o.start }
+    ensures spans { AreMovedOff versions.now near.now (λ s day. IsOverPart s day floor by (part.Series ended.now)) spans.old.items spans.new.items }
     ensures marks { StayMarks versions.now (λ files display. IsPartOf files display (part.Series ended.now)) marks.old.items marks.new.items }
 {
     let place = ended.place;
     let begin = first_at(spans, place);
-    if begin < ended.series.since() || least <= begin {
+    let begun = floor.unwrap_or(Moment::MIN).max(begin);
+    if begun < ended.series.since() || least <= begin {
         return;
     }
     let event = ended.event;
@@ -219,33 +188,34 @@ fn series_at<'a>(
     chosen: &[Version<'_>],
     place: usize,
     marks: &[Option<Mark>],
-    kept: &mut Vec<Option<Box<Series<'a>>>>,
-    shared: &mut Vec<Option<Replaced>>,
+    kept: &mut Vec<Option<Box<Continued<'a>>>>,
     window: Window,
     after: Option<&Key>,
     begin: Moment,
-) -> Result<Option<Box<Series<'a>>>, AllocError>
+    by: Moment,
+) -> Result<Option<Box<Continued<'a>>>, AllocError>
     requires chosen { AreChosen (map said_by files.now) (display_clock display.now) chosen.now }
     requires within { place < length chosen.now }
     requires marks { AreMarks (map said_by files.now) (map seen chosen.now) marks.now }
     requires begin { (version : Version) → slice_get chosen.now place ≡ Some version → AreFrom (map said_by files.now) (display_clock display.now) window
         (option_map (λ key. key_rank key.now) after) (seen version) begin }
     requires kept { AreKept (map said_by files.now) (display_clock display.now) kept.old.items }
-    requires shared { AreShared (map seen chosen.now) shared.old.items }
     ensures kept { AreKept (map said_by files.entry.now) (display_clock display.entry.now) kept.new.items }
-    ensures shared { AreShared (map seen chosen.entry.now) shared.new.items }
+    ensures none { kept.old.items ≡ [] → kept.new.items ≡ [] }
     ensures series { (version : Version) → slice_get chosen.entry.now place ≡ Some version → IfOk result (λ given. MatchOption given
         (Recurs (map said_by files.entry.now) (seen version) → ⊥)
         (λ series. IsListing entry_cmp (IsOfVersion (map said_by files.entry.now) (display_clock display.entry.now) window
-        (option_map (λ key. key_rank key.now) after.entry) (seen version)) (⟦<Series<'a> as Coming>⟧.coming series.value))) }
+        (option_map (λ key. key_rank key.now) after.entry) (seen version)) (⟦<Continued<'a> as Coming>⟧.coming series.value))) }
     ensures since { (version : Version) → slice_get chosen.entry.now place ≡ Some version → IfOk result (λ given. MatchOption given (Unit {0})
         (λ series. IsBehind (map said_by files.entry.now) (display_clock display.entry.now) window
         (option_map (λ key. key_rank key.now) after.entry) (seen version) series.value.since)) }
-    ensures begun { IfOk result (λ given. MatchOption given (Unit {0}) (λ series. MatchOption series.value.rule_starts (Unit {0})
+    ensures begun { IfOk result (λ given. MatchOption given (Unit {0}) (λ series. MatchOption series.value.series.rule_starts (Unit {0})
         (λ s. IsBegun s.rule s.from s.cursor))) }
+    ensures come { kept.old.items ≡ [] → IfOk result (λ given. MatchOption given (Unit {0}) (λ series. (o : Entry)
+        → IsIn o (⟦<Continued<'a> as Coming>⟧.coming series.value) → series.value.series.since ≤ℤ o.start)) }
     ensures sources { (version : Version) → slice_get chosen.entry.now place ≡ Some version → IfOk result (λ given. MatchOption given (Unit {0})
         (λ series. (m : Recurring) × IsSourceOf (map said_by files.entry.now) (display_clock display.entry.now) window
-        (option_map (λ key. key_rank key.now) after.entry) (seen version) m × (series_sources series.value ≡ Of m ∷ []))) }
+        (option_map (λ key. key_rank key.now) after.entry) (seen version) m × (continued_sources series.value ≡ Of m ∷ []))) }
 {
     let version = chosen[place];
     let event = version.spot.event(files);
@@ -253,58 +223,18 @@ fn series_at<'a>(
         return Ok(None);
     }
     let zones = version.spot.zones(files, display);
-    let since = since_of(after, event.uid.as_slice());
-    let replaced = shared_at(alloc, shared, chosen, place)?;
-    let keeps = place < kept.len();
-    let resting = take_kept(kept, place, event);
-    let held = series_of(
-        alloc,
-        zones,
-        event,
-        window,
-        since.max(begin),
-        marks,
-        place,
-        resting,
-        keeps,
-        replaced,
-    )?;
-    Ok(Some(held))
-}
-
-/// The series of an event, whose mark is at a place: the one that rests, begun again, or a new one. What is found of its rule is kept if asked for.
-fn series_of<'a>(
-    alloc: Global,
-    zones: FileZones<'a>,
-    event: &'a Event,
-    window: Window,
-    since: Moment,
-    marks: &[Option<Mark>],
-    place: usize,
-    resting: Option<Box<Series<'a>>>,
-    keeps: bool,
-    replaced: Replaced,
-) -> Result<Box<Series<'a>>, AllocError>
-    requires own { IsOwnEvent zones event.now }
-    requires mark { (m : Mark) → slice_get marks.now place ≡ Some (Some m) → IsMarkOf event.now (Some m) }
-    requires resting { IsSeriesOf event.now resting }
-    ensures listing { IfOk result (λ series. IsListing entry_cmp
-        (IsSeriesMet (clocks_in zones.entry) event.entry.now window since replaced)
-        (⟦<Series<'a> as Coming>⟧.coming series.value)) }
-    ensures sources { IfOk result (λ series. series_sources series.value ≡ source_of (clocks_in zones.entry) event.entry.now window since) }
-    ensures begun { IfOk result (λ series. MatchOption series.value.rule_starts (Unit {0}) (λ s. IsBegun s.rule s.from s.cursor)) }
-{
-    match resting {
-        None => {
-            let mark = mark_at(marks, place);
-            new_series(alloc, zones, event, window, since, mark, keeps, replaced)
-        }
-        Some(mut series) => {
-            let mark = mark_at(marks, place);
-            series.again(alloc, zones, event, window, since, mark, replaced)?;
-            Ok(series)
-        }
+    let since = since_of(after, event.uid.as_slice()).max(begin);
+    let mark = mark_at(marks, place);
+    if let Some(mut series) = take_kept(kept, place, event) {
+        series.again(alloc, window, since, by, mark)?;
+        return Ok(Some(series));
     }
+    let replaced = replaced_at(alloc, chosen, place)?;
+    let keeps = place < kept.len();
+    let series = new_series(
+        alloc, zones, event, window, since, by, mark, keeps, replaced,
+    )?;
+    Ok(Some(series))
 }
 
 /// A new series of an event. It is made apart from what asks for it, so that its room is cleared only here.
@@ -315,44 +245,25 @@ fn new_series<'a>(
     event: &'a Event,
     window: Window,
     since: Moment,
+    by: Moment,
     mark: Option<&Mark>,
     keeps: bool,
     replaced: Replaced,
-) -> Result<Box<Series<'a>>, AllocError>
+) -> Result<Box<Continued<'a>>, AllocError>
     requires own { IsOwnEvent zones event.now }
     requires mark { MatchOption mark (Unit {0}) (λ m. IsMarkOf event.now (Some m.now)) }
     ensures listing { IfOk result (λ series. IsListing entry_cmp
         (IsSeriesMet (clocks_in zones.entry) event.entry.now window since replaced)
-        (⟦<Series<'a> as Coming>⟧.coming series.value)) }
-    ensures sources { IfOk result (λ series. series_sources series.value ≡ source_of (clocks_in zones.entry) event.entry.now window since) }
-    ensures begun { IfOk result (λ series. MatchOption series.value.rule_starts (Unit {0}) (λ s. IsBegun s.rule s.from s.cursor)) }
+        (⟦<Continued<'a> as Coming>⟧.coming series.value)) }
+    ensures sources { IfOk result (λ series. continued_sources series.value ≡ source_of (clocks_in zones.entry) event.entry.now window since replaced) }
+    ensures since { IfOk result (λ series. series.value.since ≡ since) }
+    ensures begun { IfOk result (λ series. MatchOption series.value.series.rule_starts (Unit {0}) (λ s. IsBegun s.rule s.from s.cursor)) }
 {
-    let series = Series::new(alloc, zones, event, window, since, mark, keeps, replaced)?;
+    let series = Continued::new(
+        alloc, zones, event, window, since, by, mark, keeps, replaced,
+    )?;
     let held = Box::new(alloc, series)?;
     Ok(held)
-}
-
-/// The instances of the master at a place that overrides replace: those that were found before, or they are found now and shared from then on.
-fn shared_at(
-    alloc: Global,
-    shared: &mut Vec<Option<Replaced>>,
-    chosen: &[Version<'_>],
-    place: usize,
-) -> Result<Replaced, AllocError>
-    requires rises { Rises (on (λ l. l.subject) subject_cmp) (map seen chosen.now) }
-    requires master { (version : Version) → slice_get chosen.now place ≡ Some version → version.subject.recurrence ≡ None }
-    requires within { place < length chosen.now }
-    requires shared { AreShared (map seen chosen.now) shared.old.items }
-    ensures shared { AreShared (map seen chosen.entry.now) shared.new.items }
-    ensures replaced { (version : Version) → slice_get chosen.entry.now place ≡ Some version
-        → IfOk result (λ replaced. replaced ≡ named_by version.subject.uid.now (map seen chosen.entry.now)) }
-{
-    if let Some(found) = found_at(shared, place) {
-        return found.share();
-    }
-    let replaced = replaced_at(alloc, chosen, place)?;
-    put_shared(shared, place, replaced.share()?);
-    Ok(replaced)
 }
 
 /// The instances of the master at a place that overrides replace. These stand behind it.
@@ -366,7 +277,7 @@ fn replaced_at(alloc: Global, chosen: &[Version<'_>], place: usize) -> Result<Re
     let uid = chosen[place].subject.uid;
     let behind = &chosen[place + 1..];
     let instants = recurrences(alloc, &behind[..count_of(uid, behind)])?;
-    Replaced::new(alloc, instants)
+    Ok(Replaced::new(instants))
 }
 
 /// How many versions at the front have a UID.

@@ -43,7 +43,7 @@ module _ (old new : Series) (same : IsSameSeries old new) where
   same-coming left = same-given (series_left new) ∙ ap (series_of old) left
 
   pub same-sources : series_sources new ≡ series_sources old
-  same-sources = λ i. source_of (clocks_in (same.zones i)) ((same.event i).now) (same.window i) (same.since i)
+  same-sources = λ i. source_of (clocks_in (same.zones i)) ((same.event i).now) (same.window i) (same.since i) (same.replaced i)
 
   -- a start that gives nothing goes
   pub dropped : (start : Start) → wanted_by (clocks_in old.zones) old.window old.event.now old.since old.replaced start ≡ None

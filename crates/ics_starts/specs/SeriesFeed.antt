@@ -22,19 +22,19 @@ series_left s = left s.rule_starts s.listed
 abbrev pub series_of : Series → List Start → List Entry
 series_of s starts = given_of (clocks_in s.zones) s.window s.event.now s.since s.replaced starts
 
--- its occurrences are of its event, in its window, from an instant on
-abbrev pub source_of : Clocks → Event → Window → ℤ → List Source
-source_of clocks event w since = Of (record { clocks = clocks; event = event; window = w; since = since }) ∷ []
+-- its occurrences are of its event, in its window, from an instant on, but for those that others replace
+abbrev pub source_of : Clocks → Event → Window → ℤ → List ℤ → List Source
+source_of clocks event w since replaced = Of (record { clocks = clocks; event = event; window = w; since = since; replaced = replaced }) ∷ []
 
 abbrev pub series_sources : Series → List Source
-series_sources s = source_of (clocks_in s.zones) s.event.now s.window s.since
+series_sources s = source_of (clocks_in s.zones) s.event.now s.window s.since s.replaced
 
 -- An occurrence is of its event. If it begins at the instant of DTSTART's local or of one that the rule keeps, the rule has been read no
 -- further than three days past it.
 abbrev pub series_near : Series → Entry → Type 0
 series_near s o = (o.event ≡ s.event.now) × IsAskedNear (clocks_in s.zones) s.event.now (rule_asked s.rule_starts) o.start
 
-asked-prop : (clocks : Clocks) (event : Event) (asked : Option ℤ) (t : ℤ) → IsProp (IsAskedNear clocks event asked t)
+pub asked-prop : (clocks : Clocks) (event : Event) (asked : Option ℤ) (t : ℤ) → IsProp (IsAskedNear clocks event asked t)
 asked-prop clocks event None t = Unit-prop
 asked-prop clocks event (Some day) t = Π_prop λ local. Π_prop λ k. hlevel props
 

@@ -439,8 +439,23 @@ fn rule_quiet(rule: &Option<RuleStarts<'_>>, mark: &mut Option<Mark>) -> Moment
     }
 }
 
+/// Puts the places of the EXDATEs and RDATEs of an event in the order of their locals, unless they stand in it or are few.
+fn place_dates(
+    dates: &mut Option<Box<DatesByLocal>>,
+    alloc: Global,
+    event: &Event,
+) -> Result<(), AllocError>
+    requires { HasDates event.now dates.old }
+    ensures { HasDates event.entry.now dates.new }
+{
+    if dates.is_none() {
+        *dates = DatesByLocal::new(alloc, event)?;
+    }
+    Ok(())
+}
+
 impl<'a> Series<'a> {
-    ghost use Rattle.std.specs.Prelude.{◌<◌, ◌<ℤ◌, ◌≤◌, [], ◌∷◌, false, length, true, IfOk, OnOk, Some};
+    ghost use Rattle.std.specs.Prelude.{◌<◌, ◌<ℤ◌, ◌≤◌, [], ◌∷◌, false, length, true, IfOk, OnErr, OnOk, Some};
     ghost use Rattle.std.specs.Option.{option_map};
     ghost use Rattle.ics_listing.specs.Entry.{Entry, entry_of};
     ghost use Rattle.ics_starts.specs.Quiet.{IsQuietTo};
@@ -466,7 +481,7 @@ impl<'a> Series<'a> {
         ensures listing { IfOk result (λ series. IsListing entry_cmp
             (IsSeriesMet (clocks_in zones.entry) event.entry.now window since replaced)
             (⟦<Series<'a> as Coming>⟧.coming series)) }
-        ensures sources { IfOk result (λ series. series_sources series ≡ source_of (clocks_in zones.entry) event.entry.now window since) }
+        ensures sources { IfOk result (λ series. series_sources series ≡ source_of (clocks_in zones.entry) event.entry.now window since replaced) }
         ensures begun { IfOk result (λ series. MatchOption series.rule_starts (Unit {0}) (λ s. IsBegun s.rule s.from s.cursor)) }
     {
         let met = first_met(zones, event, &window);
@@ -490,28 +505,32 @@ impl<'a> Series<'a> {
         })
     }
 
-    /// Becomes the series of the same event for another window, instant and other instances that others replace. What its searches have found of the
-    /// rule is known. After an `AllocError` it is what it was.
+    /// Becomes the series of its event for another window and instant. What its searches have found of the rule is known. After an `AllocError` it is
+    /// what it was.
     pub fn again(
         &mut self,
         alloc: Global,
-        zones: FileZones<'a>,
-        event: &'a Event,
         window: Window,
         since: Moment,
         mark: Option<&Mark>,
-        replaced: Replaced,
     ) -> Result<(), AllocError>
-        requires own { IsOwnEvent zones event.now }
-        requires same { self.old.event.now ≡ event.now }
-        requires mark { MatchOption mark (Unit {0}) (λ m. IsMarkOf event.now (Some m.now)) }
+        requires mark { MatchOption mark (Unit {0}) (λ m. IsMarkOf self.old.event.now (Some m.now)) }
         ensures listing { OnOk result (IsListing entry_cmp
-            (IsSeriesMet (clocks_in zones.entry) event.entry.now window since replaced)
+            (IsSeriesMet (clocks_in self.old.zones) self.old.event.now window since self.old.replaced)
             (⟦<Series<'a> as Coming>⟧.coming self.new)) }
-        ensures sources { OnOk result (series_sources self.new ≡ source_of (clocks_in zones.entry) event.entry.now window since) }
+        ensures sources { OnOk result (series_sources self.new
+            ≡ source_of (clocks_in self.old.zones) self.old.event.now window since self.old.replaced) }
+        ensures zones { self.new.zones ≡ self.old.zones }
+        ensures event { self.new.event ≡ self.old.event }
+        ensures replaced { self.new.replaced ≡ self.old.replaced }
+        ensures window { OnOk result (self.new.window ≡ window) }
+        ensures since { OnOk result (self.new.since ≡ since) }
+        ensures err { OnErr result (series_of self.new (series_left self.new) ≡ series_of self.old (series_left self.old)) }
+        ensures still { OnErr result (series_sources self.new ≡ series_sources self.old) }
         ensures begun { OnOk result (MatchOption self.new.rule_starts (Unit {0}) (λ s. IsBegun s.rule s.from s.cursor)) }
     {
-        self.place_dates(alloc)?;
+        let (zones, event) = (self.zones, self.event);
+        place_dates(&mut self.dates, alloc, event)?;
         let met = first_met(zones, event, &window);
         let (listed, exclusions) = lists_of(alloc, zones, event, &window, since, met, &self.dates)?;
         let begin = begin_of_rule(zones, event, &window, since, met, &listed);
@@ -525,25 +544,12 @@ impl<'a> Series<'a> {
             begin,
             mark,
         );
-        self.zones = zones;
-        self.event = event;
         self.window = window;
         self.since = since;
         self.first = None;
         self.exclusions = exclusions;
-        self.replaced = replaced;
         self.listed = starts;
         self.ends = Ends::new();
-        Ok(())
-    }
-
-    /// Puts the places of the EXDATEs and RDATEs of its event in the order of their locals, unless they stand in it or are few.
-    fn place_dates(&mut self, alloc: Global) -> Result<(), AllocError>
-        ensures { self.new.event ≡ self.old.event }
-    {
-        if self.dates.is_none() {
-            self.dates = DatesByLocal::new(alloc, self.event)?;
-        }
         Ok(())
     }
 
@@ -584,36 +590,11 @@ impl<'a> Series<'a> {
         self.listed.pass(start);
     }
 
-    /// Whether a start can give an occurrence. One that is in the window does, unless an EXDATE removes it or others replace it, and
-    /// is not looked at any further; one that is behind it does not.
-    fn can_give(&self, start: Start) -> bool
-        requires { IsStartIn self.now.zones start }
-        ensures { result ≡ false → wanted_by (clocks_in self.now.zones) self.now.window self.now.event.now self.now.since
-            self.now.replaced start ≡ None }
+    /// The window that its occurrences meet.
+    pub fn window(&self) -> Window
+        ensures { result ≡ self.now.window }
     {
-        if self.window.to <= start.moment {
-            return false;
-        }
-        if self.window.from <= start.moment {
-            return true;
-        }
-        self.wanted(start).is_some()
-    }
-
-    /// Drops the starts that give no occurrence, up to the first that can give one. Whether there is one.
-    pub fn settle(&mut self) -> Result<bool, AllocError>
-        ensures coming { series_of self.new (series_left self.new) ≡ series_of self.old (series_left self.old) }
-        ensures same { IsSameSeries self.old self.new }
-        ensures none { IfOk result (λ some. some ≡ false → series_of self.new (series_left self.new) ≡ []) }
-    {
-        while let Some(start) = self.peek()? {
-            if self.can_give(start) {
-                return Ok(true);
-            }
-            self.pass(&start);
-            self.skip();
-        }
-        Ok(false)
+        self.window
     }
 
     /// The instant from which on the occurrences of the series begin.
@@ -820,6 +801,7 @@ impl<'a> Series<'a> {
     ghost use Rattle.std.specs.Prelude.{length};
     ghost use Rattle.ics_starts.specs.RuleHolding.{rule_looked, series_holds};
     ghost use Rattle.ics_starts.specs.RuleMarks.{IsMarkOf};
+    ghost use Rattle.ics_starts.specs.SeriesFeed.{series_left, series_of, IsSameSeries};
 
     /// Where the search of its rule begins, of which nothing was read yet. Without COUNT there is no mark.
     pub fn mark(&self) -> Option<Mark>
@@ -834,7 +816,8 @@ impl<'a> Series<'a> {
 
     /// Ends its search. What that has found of its rule is known to the next.
     pub fn rest(&mut self)
-        ensures { self.new.event ≡ self.old.event }
+        ensures coming { series_of self.new (series_left self.new) ≡ series_of self.old (series_left self.old) }
+        ensures same { IsSameSeries self.old self.new }
     {
         rest_rule(&mut self.rule_starts);
     }

@@ -19,6 +19,7 @@ use Rattle.ics_starts.specs.SingleEvents.{is_single}
 use Rattle.ics_listing.specs.FeedSources.{Recurring, Source}
 use Rattle.ics_series.specs.Sources.{uid_cmp, IsFrom}
 use Rattle.ics_listing.specs.FeedSources.Source.{Of}
+use Rattle.ics_series.specs.Replaced.{AreReplaced}
 use Rattle.ics_series.specs.Spots.{event_at}
 use Rattle.ics_series.specs.Versions.{Label}
 use Rattle.ics_listing.specs.WindowBounds.{occurrence_first, window_last}
@@ -97,6 +98,7 @@ pub record IsSourceOf (files : List FileSaid) (display : Clock) (w : Window) (af
   pub clocks : m.clocks ≡ clocks_at files display label.spot.file
   pub window : m.window ≡ w
   pub since : IsFrom after m.since
+  pub replaced : AreReplaced files display m.event.uid m.replaced
 
 -- the master is that of one of these versions
 pub record IsSource (files : List FileSaid) (display : Clock) (w : Window) (after : Option Rank) (labels : List Label) (m : Recurring) : Type 0 where

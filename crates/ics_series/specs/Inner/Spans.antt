@@ -1,5 +1,5 @@
 -- From when to when the events of a folder are, so that they need not be read for a window that they cannot meet.
-use Rattle.std.specs.Prelude.{◌≡◌, ◌⊎◌, ◌<ℤ◌, ◌≤ℤ◌, ◌-ℤ◌, ℕ, ℤ, pos, true, false, int_lt, if◌then◌else◌, List, [], length}
+use Rattle.std.specs.Prelude.{◌≡◌, ◌⊎◌, ◌<ℤ◌, ◌≤ℤ◌, ◌-ℤ◌, ℕ, ℤ, pos, true, false, int_lt, if◌then◌else◌, List, length}
 use Rattle.std.specs.Prelude.{slice_get}
 use Rattle.std.specs.Prelude.{Option, Some, None}
 use Rattle.std.specs.Int.{int_max}
@@ -11,7 +11,8 @@ use Rattle.ics_days.specs.declared.span.Span.{Span}
 use Rattle.ics_listing.specs.declared.window.Window.{Window}
 use Rattle.ics_listing.specs.FileClocks.{Clock, Clocks}
 use Rattle.ics_starts.specs.Clocks.{instant}
-use Rattle.ics_listing.specs.Entry.{Entry}
+use Rattle.ics_listing.specs.After.{is_after}
+use Rattle.ics_listing.specs.Entry.{Entry, Rank}
 use Rattle.ics_starts.specs.Finish.{finish}
 use Rattle.ics_starts.specs.Quiet.{IsQuietTo}
 use Rattle.ics_listing.specs.WindowBounds.{occurrence_first}
@@ -81,10 +82,12 @@ pub record IsLater (w n : Window) : Type 0 where
   pub from : w.from ≤ℤ n.from
   pub same : w.notstarted ≡ n.notstarted
 
--- as many spans as before are still those of the versions, for each window that begins no earlier than this one
-pub record AreMovedOn (files : List FileSaid) (display : Clock) (w : Window) (floor : Option ℤ) (labels : List Label) (old new : List Span) : Type 0 where
-  pub size : length new ≡ length old
-  pub still : (n : Window) → IsLater w n → AreSpans files display n floor labels old → AreSpans files display n floor labels new
+-- they are so for all that comes after a key
+pub record AreSpansBehind (files : List FileSaid) (display : Clock) (w : Window) (after : Option Rank) (labels : List Label) (spans : List Span) : Type
+    0 where
+  pub floor : Option ℤ
+  pub started : (o : Entry) → is_after after o ≡ true → IsStartedBy floor o
+  pub are : AreSpans files display w floor labels spans
 
 -- they are so for what is listed of what a window holds near each day after one
 abbrev pub AreSpansAfter : List FileSaid → Clock → Bounds → Window → ℤ → List Label → List Span → Type 0
@@ -102,15 +105,10 @@ IsSpanPut old place span new =
     (length new ≡ length old)
     × ((k : ℕ) (s : Span) → slice_get new k ≡ Some s → (slice_get old k ≡ Some s) ⊎ ((k ≡ place) × (s ≡ span)))
 
--- of a series that begins by an instant, or with the span at a place, and has nothing to come, that span is the rest
-pub record IsPutOff (clocks : Clocks) (event : Event) (w : Window) (since : ℤ) (floor : Option ℤ) (coming : List Entry) (old : List Span) (place : ℕ)
-    (new : List Span) : Type 0 where
+-- of a series that begins by an instant, or with the span at a place, that span is the rest
+pub record IsPutOff (clocks : Clocks) (event : Event) (w : Window) (since : ℤ) (floor : Option ℤ) (old : List Span) (place : ℕ) (new : List Span) : Type
+    0 where
   pub low : since ≤ℤ int_max (unwrap_or floor always.first) (first_at old place)
-  pub empty : coming ≡ []
   pub span : Span
   pub rest : IsRest clocks event w since span
   pub put : IsSpanPut old place span new
-
--- it is so, or the spans are those from before
-abbrev pub IsMovedOn : Clocks → Event → Window → ℤ → Option ℤ → List Entry → List Span → ℕ → List Span → Type 0
-IsMovedOn clocks event w since floor coming old place new = (new ≡ old) ⊎ IsPutOff clocks event w since floor coming old place new

@@ -20,7 +20,7 @@ pub loop-lead-preserved-in-Some-end : goal.loop-lead-preserved-in-Some-end
 loop-lead-preserved-in-Some-end c =
     let lead = c.in-Some.lead in
     let left = c.pop.new.self.items in
-    let least = to_z w64 (of_z w64 c.args.least) in
+    let by = to_z w64 (of_z w64 c.args.by) in
     let taken = c.pop.ensures.items ∙ ap (λ o. left ++ option_to_list o) c.in-Some.is in
     record {
       kept = λ files display parts are.
@@ -29,9 +29,9 @@ loop-lead-preserved-in-Some-end c =
           c.put_at.ensures files display (c.loop-lead.invariant.kept files display parts are)
           (rw c.in-Some-end.is at (c.end.ensures.kept files display (subst (IsPartOf files display) (sym c.into_feed.ensures) both.1)));
       spans = moved-then c.loop-lead.invariant.spans c.end.ensures.spans
-          (λ s day over. subst (IsOverPart s day least) (sym c.into_feed.ensures)
-          (all-last left lead (λ l. IsOverPart s day least l.feed)
-          (subst (AllByRecursion (λ l. IsOverPart s day least l.feed)) taken (c.loop-lead.invariant.over s day over))).1);
+          (λ s day over. subst (IsOverPart s day c.args.floor by) (sym c.into_feed.ensures)
+          (all-last left lead (λ l. IsOverPart s day c.args.floor by l.feed)
+          (subst (AllByRecursion (λ l. IsOverPart s day c.args.floor by l.feed)) taken (c.loop-lead.invariant.over s day over))).1);
       marks = stay-then c.loop-lead.invariant.marks c.end.ensures.marks
           (λ files display parts. subst (IsPartOf files display) (sym c.into_feed.ensures)
           (all-last left lead (λ l. IsPartOf files display l.feed)
@@ -40,22 +40,22 @@ loop-lead-preserved-in-Some-end c =
           (all-last left lead (λ l. IsPartOf files display l.feed)
           (subst (AllByRecursion (λ l. IsPartOf files display l.feed)) taken (c.loop-lead.invariant.parts files display parts))).0;
       over = λ s day over.
-          (all-last left lead (λ l. IsOverPart s day least l.feed)
-          (subst (AllByRecursion (λ l. IsOverPart s day least l.feed)) taken (c.loop-lead.invariant.over s day over))).0;
+          (all-last left lead (λ l. IsOverPart s day c.args.floor by l.feed)
+          (subst (AllByRecursion (λ l. IsOverPart s day c.args.floor by l.feed)) taken (c.loop-lead.invariant.over s day over))).0;
     }
 
 pub loop-lead-preserved : goal.loop-lead-preserved
 loop-lead-preserved c =
     let lead = c.in-Some.lead in
     let left = c.pop.new.self.items in
-    let least = to_z w64 (of_z w64 c.args.least) in
+    let by = to_z w64 (of_z w64 c.args.by) in
     let taken = c.pop.ensures.items ∙ ap (λ o. left ++ option_to_list o) c.in-Some.is in
     record {
       kept = c.loop-lead.invariant.kept;
       spans = moved-then c.loop-lead.invariant.spans c.end.ensures.spans
-          (λ s day over. subst (IsOverPart s day least) (sym c.into_feed.ensures)
-          (all-last left lead (λ l. IsOverPart s day least l.feed)
-          (subst (AllByRecursion (λ l. IsOverPart s day least l.feed)) taken (c.loop-lead.invariant.over s day over))).1);
+          (λ s day over. subst (IsOverPart s day c.args.floor by) (sym c.into_feed.ensures)
+          (all-last left lead (λ l. IsOverPart s day c.args.floor by l.feed)
+          (subst (AllByRecursion (λ l. IsOverPart s day c.args.floor by l.feed)) taken (c.loop-lead.invariant.over s day over))).1);
       marks = stay-then c.loop-lead.invariant.marks c.end.ensures.marks
           (λ files display parts. subst (IsPartOf files display) (sym c.into_feed.ensures)
           (all-last left lead (λ l. IsPartOf files display l.feed)
@@ -64,12 +64,12 @@ loop-lead-preserved c =
           (all-last left lead (λ l. IsPartOf files display l.feed)
           (subst (AllByRecursion (λ l. IsPartOf files display l.feed)) taken (c.loop-lead.invariant.parts files display parts))).0;
       over = λ s day over.
-          (all-last left lead (λ l. IsOverPart s day least l.feed)
-          (subst (AllByRecursion (λ l. IsOverPart s day least l.feed)) taken (c.loop-lead.invariant.over s day over))).0;
+          (all-last left lead (λ l. IsOverPart s day c.args.floor by l.feed)
+          (subst (AllByRecursion (λ l. IsOverPart s day c.args.floor by l.feed)) taken (c.loop-lead.invariant.over s day over))).0;
     }
 
 pub returns-clause-spans : goal.returns-clause-spans
 returns-clause-spans c =
-    let fits : to_z w64 (of_z w64 c.args.least) ≡ c.args.least = search rules in
+    let fits : to_z w64 (of_z w64 c.args.by) ≡ c.args.by = search rules in
     moved-as c.loop-lead.invariant.spans
-    (λ s day over. subst (λ (t : ℤ). AllByRecursion (λ l. IsOverPart s day t l.feed) c.args.leads.now.items) (sym fits) over)
+    (λ s day over. subst (λ (t : ℤ). AllByRecursion (λ l. IsOverPart s day c.args.floor t l.feed) c.args.leads.now.items) (sym fits) over)

@@ -12,14 +12,14 @@ abbrev pub invariant-loop-lead : goal.invariant-loop-lead
 invariant-loop-lead l = record {
   kept : (files : List FileSaid) (display : Clock) → AllByRecursion (λ x. IsPartOf files display x.feed) l.initial.leads.items
       → AreKept files display l.initial.kept.items → AreKept files display l.kept.items;
-  spans : AreMovedOff l.versions l.near (λ s day. AllByRecursion (λ x. IsOverPart s day l.least x.feed) l.initial.leads.items)
+  spans : AreMovedOff l.versions l.near (λ s day. AllByRecursion (λ x. IsOverPart s day l.floor l.by x.feed) l.initial.leads.items)
       l.initial.spans.items l.spans.items;
   marks : StayMarks l.versions (λ files display. AllByRecursion (λ x. IsPartOf files display x.feed) l.initial.leads.items)
       l.initial.marks.items l.marks.items;
   parts : (files : List FileSaid) (display : Clock) → AllByRecursion (λ x. IsPartOf files display x.feed) l.initial.leads.items
       → AllByRecursion (λ x. IsPartOf files display x.feed) l.leads.items;
-  over : (s : Scope) (day : ℤ) → AllByRecursion (λ x. IsOverPart s day l.least x.feed) l.initial.leads.items
-      → AllByRecursion (λ x. IsOverPart s day l.least x.feed) l.leads.items;
+  over : (s : Scope) (day : ℤ) → AllByRecursion (λ x. IsOverPart s day l.floor l.by x.feed) l.initial.leads.items
+      → AllByRecursion (λ x. IsOverPart s day l.floor l.by x.feed) l.leads.items;
 }
 
 abbrev pub decreases-loop-lead : goal.decreases-loop-lead

@@ -1,6 +1,6 @@
 use Rattle.std.proofs.lemmas.Grind.{common_steps}
 use Rattle.std.proofs.Common.{◌≡◌, ◌+◌, ◌<◌, List, [], ◌∷◌, ◌++◌, length, take, Vec, Global, Option, Some, map, get_or, option_map, refl, sym, subst}
-use Rattle.std.proofs.Common.{ap, ◌∙◌, arith, append-nil, rules, to_z, of_z, w64}
+use Rattle.std.proofs.Common.{ap, ◌∙◌, ◌≤ℤ◌, ⊎_elim, arith, append-nil, rules, to_z, of_z, w64}
 use Rattle.std.specs.Global.{Box}
 use Rattle.std.specs.List.{flat_map, AllByRecursion}
 use Rattle.std.proofs.lemmas.Int.{ints}
@@ -11,70 +11,46 @@ use Rattle.ics_file.specs.File.{said_by}
 use Rattle.ics_starts.specs.Clocks.{display_clock}
 use Rattle.ics_series.specs.Versions.{seen}
 use Rattle.ics_starts.specs.declared.mark.Mark.{Mark}
-use Rattle.ics_starts.specs.declared.series.Series.{Series}
-use Rattle.ics_days.specs.declared.span.Span.{Span}
-use Rattle.ics_series.specs.AgendaParts.{part_coming, part_near, part_sources}
-use Rattle.ics_listing.specs.Entry.{key_rank}
-use Rattle.ics_starts.specs.FileZones.{clocks_in}
+use Rattle.ics_continued.specs.declared.continued.Continued.{Continued}
+use Rattle.ics_series.specs.AgendaParts.{part_coming, part_near, part_sources, ComesSince}
+use Rattle.ics_listing.specs.Entry.{key_rank, Entry}
 use Rattle.ics_series.specs.Inner.Marks.{AreMarks, IsPut}
 use Rattle.ics_series.specs.Inner.Masters.{AreFrom, HasLists, HasSources}
 use Rattle.ics_starts.specs.RuleMarks.{IsMarkOf}
-use Rattle.ics_days.specs.NearPlaces.{AreSameBut}
-use Rattle.ics_days.specs.Spans.{first_at, is_out}
-use Rattle.ics_series.specs.Inner.Spans.{AreMovedOn, IsMovedOn}
-use Rattle.ics_starts.specs.SeriesFeed.{series_left, series_of, series_sources}
+use Rattle.ics_days.specs.Spans.{first_at}
+use Rattle.ics_continued.specs.Continued.{continued_left, continued_sources}
 use Rattle.ics_listing.specs.Leads.{IsFresh}
+use Rattle.ics_listing.specs.Listing.{IsIn}
 use Rattle.ics_listing.proofs.LeadLemmas.{all-pushed}
-use Rattle.ics_listing.proofs.ListingLemmas.{get-in}
-use Rattle.ics_series.proofs.GapLemmas.{lists-gap, looked-all, looked-none, looked-one, moved-others, place-gap, place-low, place-within}
+use Rattle.ics_series.proofs.GapLemmas.{lists-gap, looked-all, looked-none, looked-one, place-gap, place-low, place-within}
 use Rattle.ics_series.proofs.GapLemmas.{sources-gap, IsLookedTo}
 use Rattle.ics_listing.specs.FeedSources.{Recurring}
+use Rattle.ics_series.specs.Sources.{recurring}
 use Rattle.std.specs.Option.{unwrap_or}
 use Rattle.ics_series.proofs.MarkLemmas.{first_source, marks-put, own-mark}
 use Rattle.ics_series.proofs.OverrideLemmas.{any_version}
 use Rattle.ics_series.proofs.RecurringLemmas.{not-single}
-use Rattle.ics_starts.proofs.SameLemmas.{same-sources}
 use Rattle.ics_series.proofs.SourceLemmas.{versions-all, versions-more, versions-none, versions-skip, sources-all, sources-more}
 use Rattle.ics_series.proofs.SourceLemmas.{sources-skip}
-use Rattle.ics_series.proofs.SpanLemmas.{come-first, out-version, series-moved}
+use Rattle.ics_series.proofs.SpanLemmas.{come-first, out-version}
 use Rattle.ics_series.proofs.VersionLemmas.{stands}
 use Rattle.ics_series.proofs.masters.push_series.Goals as goal
-use Rattle.ics_series.proofs.masters.push_series.Goals.{At-loop-place, In_ok-series, in-Some+in_ok-move_on+in_ok-push, in_default}
+use Rattle.ics_series.proofs.masters.push_series.Goals.{At-loop-place, In_ok-series, in-Some+in_ok-push, in_default}
 
--- the spans after a version's own was moved on, or could not be
-moved-on : (c : In_ok-series) (held : Box Series) {spans : List Span} → c.in_ok-series.field-0 ≡ Some held
-    → IsMovedOn (clocks_in held.value.zones) held.value.event.now held.value.window held.value.since c.args.floor
-    (series_of held.value (series_left held.value)) c.loop-place.spans.items (get_or c.args.near.now c.loop-place.place-index 0) spans
-    → AreMovedOn (map said_by c.args.files.now) (display_clock c.args.display.now) c.args.window c.args.floor (map seen c.args.chosen.now)
-    c.args.spans.now.items spans
-moved-on c held is moved =
-    let vs = c.args.chosen.now in
-    let k = get_or c.args.near.now c.loop-place.place-index 0 in
-    let v = get_or c.args.chosen.now k any_version in
-    let there = slice_get-get_or vs k any_version (place-within c.requires.near c.loop-place.place-index c.loop-place-test.true) in
-    let files = map said_by c.args.files.now in
-    let display = display_clock c.args.display.now in
-    let m = MatchOption-at_some _ _ held is (c.in_ok-series.ensures.sources v there) in
-    let listing = MatchOption-at_some _ _ held is (c.in_ok-series.ensures.series v there) in
-    let behind = MatchOption-at_some _ _ held is (c.in_ok-series.ensures.since v there) in
-    let more = series-moved files display c.args.window c.args.floor vs k there held.value m.1 m.2 behind listing moved in
-    let before = c.loop-place.invariant.spans in
-    record { size = more.size ∙ before.size; still = λ n later are. more.still n later (before.still n later are) }
+-- what holds of each and of one more holds of each where that is added
+all-added : {A : Type 0} (P : A → Type 0) (old : List A) (x : A) {new : List A} → new ≡ old ++ x ∷ [] → AllByRecursion P old → P x → AllByRecursion P new
+all-added P old x is all mine = rw is (all-pushed P old x all mine)
 
--- those at other places are as they were
-others-on : (c : In_ok-series) (series : Series) {spans : List Span}
-    → IsMovedOn (clocks_in series.zones) series.event.now series.window series.since c.args.floor
-    (series_of series (series_left series)) c.loop-place.spans.items (get_or c.args.near.now c.loop-place.place-index 0) spans
-    → AreSameBut c.args.near.now c.args.spans.now.items spans
-others-on c series moved = λ j away.
-    let near = c.args.near.now in
-    let k = get_or near c.loop-place.place-index 0 in
-    moved-others near k (get-in k near c.loop-place.place-index (slice_get-get_or near c.loop-place.place-index 0 c.loop-place-test.true)) moved j away
-    ∙ c.loop-place.invariant.others j away
+-- what is to come begins with the series of a master, or later
+comes-as : (series : Continued) → ((o : Entry) → IsIn o (continued_left series) → series.series.since ≤ℤ o.start) → (m : Recurring) (o : Entry)
+    → IsIn m (recurring (continued_sources series)) → IsIn o (continued_left series) → m.since ≤ℤ o.start
+comes-as series come m o stands there =
+    let low = come o there in
+    ⊎_elim (λ e. let mine = ap (λ (r : Recurring). r.since) e in omega (arith, ints, low, mine)) (λ none. absurd none) stands
 
 -- the marks after that of a series was put
-marked-on : (c : In_ok-series) (held : Box Series) (mark : Option Mark) (marks : List (Option Mark)) → c.in_ok-series.field-0 ≡ Some held
-    → IsMarkOf held.value.event.now mark → IsPut c.loop-place.marks.items (get_or c.args.near.now c.loop-place.place-index 0) mark marks
+marked-on : (c : In_ok-series) (held : Box Continued) (mark : Option Mark) (marks : List (Option Mark)) → c.in_ok-series.field-0 ≡ Some held
+    → IsMarkOf held.value.series.event.now mark → IsPut c.loop-place.marks.items (get_or c.args.near.now c.loop-place.place-index 0) mark marks
     → AreMarks (map said_by c.args.files.now) (map seen c.args.chosen.now) marks
 marked-on c held mark marks is of put =
     let vs = c.args.chosen.now in
@@ -84,35 +60,12 @@ marked-on c held mark marks is of put =
     let files = map said_by c.args.files.now in
     let m = MatchOption-at_some _ _ held is (c.in_ok-series.ensures.sources v there) in
     marks-put files (map seen vs) k mark c.loop-place.marks.items marks c.loop-place.invariant.marks put
-    (own-mark files vs k there held.value mark m.1.stands m.2 of)
-
-pub returns-in_err-move_on-clause-marks : goal.returns-in_err-move_on-clause-marks
-returns-in_err-move_on-clause-marks c =
-    let marked = rw c.deref-in-Some.ensures at c.mark.ensures in
-    marked-on (goal.at.returns-in_err-move_on-clause-marks c).In_ok-series c.in-Some.series c.mark.result _ c.in-Some.is marked c.put_mark.ensures
+    (own-mark files vs k there held.value.series mark m.1.stands m.2 of)
 
 pub returns-in_err-push-clause-marks : goal.returns-in_err-push-clause-marks
 returns-in_err-push-clause-marks c =
     let marked = rw c.deref-in-Some.ensures at c.mark.ensures in
     marked-on (goal.at.returns-in_err-push-clause-marks c).In_ok-series c.in-Some.series c.mark.result _ c.in-Some.is marked c.put_mark.ensures
-
-pub returns-in_err-move_on-clause-spans : goal.returns-in_err-move_on-clause-spans
-returns-in_err-move_on-clause-spans c =
-    let moved = rw c.deref_mut.ensures.value at c.move_on.ensures.spans in
-    moved-on (goal.at.returns-in_err-move_on-clause-spans c).In_ok-series c.in-Some.series c.in-Some.is moved
-
-pub returns-in_err-push-clause-spans : goal.returns-in_err-push-clause-spans
-returns-in_err-push-clause-spans c =
-    let moved = rw c.deref_mut.ensures.value at c.move_on.ensures.spans in
-    moved-on (goal.at.returns-in_err-push-clause-spans c).In_ok-series c.in-Some.series c.in-Some.is moved
-
-pub returns-in_err-move_on-clause-others : goal.returns-in_err-move_on-clause-others
-returns-in_err-move_on-clause-others c =
-    others-on (goal.at.returns-in_err-move_on-clause-others c).In_ok-series c.deref_mut.result.now c.move_on.ensures.spans
-
-pub returns-in_err-push-clause-others : goal.returns-in_err-push-clause-others
-returns-in_err-push-clause-others c =
-    others-on (goal.at.returns-in_err-push-clause-others c).In_ok-series c.deref_mut.result.now c.move_on.ensures.spans
 
 -- the event of the series is that of its version
 pub invariant_of-placed : goal.invariant_of-placed
@@ -124,8 +77,7 @@ invariant_of-placed c =
     let m = MatchOption-at_some _ _ c.in-Some.series c.in-Some.is (c.in_ok-series.ensures.sources v there) in
     let own = ap (λ (r : Recurring). r.event) (ap (first_source m.0) m.2) in
     let event = ap (λ o. unwrap_or o m.0.event) (sym m.1.stands ∙ c.event-event.ensures.event) in
-    let given = ap (λ (s : Series). s.event.now) c.deref_mut.ensures.value in
-    record { own = ap (λ e. e.now) c.move_on.ensures.same.event ∙ (given ∙ (own ∙ event)) }
+    record { own = own ∙ event }
 
 -- the lists and the sources up to the place that is looked at, where what lies before it gives nothing
 to-here : (c : At-loop-place) → c.loop-place.place-index < length c.args.near.now
@@ -145,10 +97,11 @@ to-here c test =
     let files = map said_by c.args.files.now in
     let display = display_clock c.args.display.now in
     let after = option_map (λ key. key_rank key.now) c.args.after in
-    let spans = c.args.spans.now.items in (
-      lists-gap files display c.args.window c.args.chosen.now spans c.requires.spans near c.requires.near looked.0 k (place-low near i at looked.1)
-          (omega (arith, within)) (place-gap near i at looked.1) after c.requires.floor looked.2,
-      sources-gap files display c.args.window c.args.chosen.now spans c.requires.spans near c.requires.near looked.0 k (place-low near i at looked.1)
+    let spans = c.args.spans.now in
+    let are = c.requires.spans.are in (
+      lists-gap files display c.args.window c.args.chosen.now spans are near c.requires.near looked.0 k (place-low near i at looked.1)
+          (omega (arith, within)) (place-gap near i at looked.1) after c.requires.spans.started looked.2,
+      sources-gap files display c.args.window c.args.chosen.now spans are near c.requires.near looked.0 k (place-low near i at looked.1)
           (omega (arith, within)) (place-gap near i at looked.1) after c.requires.chosen looked.3,
     )
 
@@ -173,11 +126,10 @@ loop-place-init c = record {
     record { more = []; each = tt; rises = tt; behind = sym (append-nil (flat_map (λ l. part_sources l.feed) c.args.leads.now.items)) },
   );
   fresh = λ fresh. fresh;
-  spans = record { size = refl; still = λ n later are. are };
-  others = λ j away. refl;
   marks = c.requires.marks;
   kept = c.requires.kept;
-  shared = c.requires.shared;
+  none = λ none. none;
+  since = λ none come. come;
 }
 
 pub loop-place-preserved : goal.loop-place-preserved
@@ -189,12 +141,9 @@ loop-place-preserved c =
     let here = to-here (goal.at.loop-place-preserved c).At-loop-place c.loop-place-test.true in
     let on = on-from (goal.at.loop-place-preserved c).At-loop-place c.loop-place-test.true in
     let files = map said_by c.args.files.now in
-    let AreMoved = AreMovedOn files (display_clock c.args.display.now) c.args.window c.args.floor (map seen vs) c.args.spans.now.items in
     elim c.match-branch-2.branch [
-      | in-Some+in_ok-move_on+in_ok-push w ↦
-          let value = w.deref_mut.ensures.value in
+      | in-Some+in_ok-push w ↦
           let leads = (λ i. (w.leads-is i).items) ∙ w.in_ok-push.ensures.items in
-          let moved = rw w.deref_mut.ensures.value at w.move_on.ensures.spans in
           let marked = rw w.deref-in-Some.ensures at w.mark.ensures in
           let m = MatchOption-at_some _ _ w.in-Some.series w.in-Some.is (c.in_ok-series.ensures.sources v there) in
           record {
@@ -206,25 +155,22 @@ loop-place-preserved c =
                   (ap (map (λ l. part_coming l.feed)) leads
                   ∙ (map-append (λ l. part_coming l.feed) c.loop-place.leads.items _
                   ∙ ap (λ xs. map (λ l. part_coming l.feed) c.loop-place.leads.items ++ xs ∷ [])
-                  (ap part_coming w.of.ensures.feed ∙ (w.move_on.ensures.coming ∙ ap (λ (s : Series). series_of s (series_left s)) value)))),
+                  (ap part_coming w.of.ensures.feed))),
               sources-more c.requires.chosen k there here.1 m.1
                   (ap (flat_map (λ l. part_sources l.feed)) leads
                   ∙ (flat_map-append (λ l. part_sources l.feed) c.loop-place.leads.items _
                   ∙ ap (λ xs. flat_map (λ l. part_sources l.feed) c.loop-place.leads.items ++ xs) (ap (λ p. part_sources p ++ []) w.of.ensures.feed
-                  ∙ (append-nil (series_sources w.move_on.new.series)
-                  ∙ (same-sources w.deref_mut.result.now w.move_on.new.series w.move_on.ensures.same ∙ (ap series_sources value ∙ m.2)))))),
+                  ∙ (append-nil (continued_sources w.in-Some.series.value) ∙ m.2)))),
             );
-            fresh = λ fresh. subst (AllByRecursion (λ l. IsFresh (part_near l.feed) l.head (part_coming l.feed))) (sym leads)
-                (all-pushed (λ l. IsFresh (part_near l.feed) l.head (part_coming l.feed)) c.loop-place.leads.items _ (c.loop-place.invariant.fresh fresh)
-                w.of.ensures.fresh);
-            spans = subst AreMoved (sym (ap (λ (p : Vec Span Global). p.items) w.spans-is))
-                (moved-on (goal.at.loop-place-preserved c).In_ok-series w.in-Some.series w.in-Some.is moved);
-            others = subst (AreSameBut c.args.near.now c.args.spans.now.items) (sym (ap (λ (p : Vec Span Global). p.items) w.spans-is))
-                (others-on (goal.at.loop-place-preserved c).In_ok-series w.deref_mut.result.now w.move_on.ensures.spans);
+            fresh = λ fresh. all-added (λ l. IsFresh (part_near l.feed) l.head (part_coming l.feed)) c.loop-place.leads.items w.of.result leads
+                (c.loop-place.invariant.fresh fresh) w.of.ensures.fresh;
             marks = subst (AreMarks files (map seen vs)) (sym (ap (λ (p : Vec (Option Mark) Global). p.items) w.marks-is))
                 (marked-on (goal.at.loop-place-preserved c).In_ok-series w.in-Some.series w.mark.result _ w.in-Some.is marked w.put_mark.ensures);
             kept = c.in_ok-series.ensures.kept;
-            shared = c.in_ok-series.ensures.shared;
+            none = λ none. c.in_ok-series.ensures.none (c.loop-place.invariant.none none);
+            since = λ none come. all-added (λ l. ComesSince l.feed) c.loop-place.leads.items w.of.result leads (c.loop-place.invariant.since none come)
+                (subst ComesSince (sym w.of.ensures.feed) (comes-as w.in-Some.series.value
+                (MatchOption-at_some _ _ w.in-Some.series w.in-Some.is (c.in_ok-series.ensures.come (c.loop-place.invariant.none none)))));
           }
       | in_default w ↦
           record {
@@ -235,14 +181,11 @@ loop-place-preserved c =
                   (λ i. map (λ l. part_coming l.feed) (w.leads-is i).items),
               sources-skip c.requires.chosen k there here.1 (λ i. flat_map (λ l. part_sources l.feed) (w.leads-is i).items),
             );
-            fresh = λ fresh. subst (AllByRecursion (λ l. IsFresh (part_near l.feed) l.head (part_coming l.feed)))
-                (sym (λ i. (w.leads-is i).items)) (c.loop-place.invariant.fresh fresh);
-            spans = subst AreMoved (sym (ap (λ (p : Vec Span Global). p.items) w.spans-is)) c.loop-place.invariant.spans;
-            others = subst (AreSameBut c.args.near.now c.args.spans.now.items) (sym (ap (λ (p : Vec Span Global). p.items) w.spans-is))
-                c.loop-place.invariant.others;
+            fresh = λ fresh. rw w.leads-is (c.loop-place.invariant.fresh fresh);
             marks = subst (AreMarks files (map seen vs)) (sym (ap (λ (p : Vec (Option Mark) Global). p.items) w.marks-is)) c.loop-place.invariant.marks;
             kept = c.in_ok-series.ensures.kept;
-            shared = c.in_ok-series.ensures.shared;
+            none = λ none. c.in_ok-series.ensures.none (c.loop-place.invariant.none none);
+            since = λ none come. rw w.leads-is (c.loop-place.invariant.since none come);
           }
     ]
 
@@ -255,10 +198,8 @@ loop-place-preserved-then-is_out c =
     let at = slice_get-map seen vs k ∙ ap (option_map seen) there in
     let files = map said_by c.args.files.now in
     let display = display_clock c.args.display.now in
-    let are = c.loop-place.invariant.spans.still c.args.window (record { from = omega (arith, ints); same = refl }) c.requires.spans in
-    let none = out-version files display c.args.window (map seen vs) c.loop-place.spans.items are k at
-    (ap (λ xs. is_out xs k c.args.window) (sym c.deref.ensures.value) ∙ (sym c.is_out.ensures ∙ c.if-is_out.true))
-    (option_map (λ key. key_rank key.now) c.args.after) c.requires.floor in
+    let none = out-version files display c.args.window (map seen vs) c.args.spans.now c.requires.spans.are k at
+    (sym c.is_out.ensures ∙ c.if-is_out.true) (option_map (λ key. key_rank key.now) c.args.after) c.requires.spans.started in
     record {
       looked = (
         k + 1,
@@ -267,11 +208,10 @@ loop-place-preserved-then-is_out c =
         sources-skip c.requires.chosen k there here.1 refl,
       );
       fresh = c.loop-place.invariant.fresh;
-      spans = c.loop-place.invariant.spans;
-      others = c.loop-place.invariant.others;
       marks = c.loop-place.invariant.marks;
       kept = c.loop-place.invariant.kept;
-      shared = c.loop-place.invariant.shared;
+      none = c.loop-place.invariant.none;
+      since = c.loop-place.invariant.since;
     }
 
 pub event-event-requires : goal.event-event-requires
@@ -296,11 +236,10 @@ loop-place-preserved-then-is_single c =
         sources-skip c.requires.chosen k there here.1 refl,
       );
       fresh = c.loop-place.invariant.fresh;
-      spans = c.loop-place.invariant.spans;
-      others = c.loop-place.invariant.others;
       marks = c.loop-place.invariant.marks;
       kept = c.loop-place.invariant.kept;
-      shared = c.loop-place.invariant.shared;
+      none = c.loop-place.invariant.none;
+      since = c.loop-place.invariant.since;
     }
 
 pub returns : goal.returns
@@ -312,20 +251,19 @@ returns c =
     let files = map said_by c.args.files.now in
     let display = display_clock c.args.display.now in
     let after = option_map (λ key. key_rank key.now) c.args.after in
-    let spans = c.args.spans.now.items in
+    let spans = c.args.spans.now in
+    let are = c.requires.spans.are in
     record {
       lists = versions-all vs (length vs) (omega arith)
-          (lists-gap files display c.args.window vs spans c.requires.spans near c.requires.near looked.0 (length vs) looked.1.within (omega arith)
-          (λ j a b m. looked-all near i looked.0 c.loop-place-test.false looked.1 j a m) after c.requires.floor looked.2);
+          (lists-gap files display c.args.window vs spans are near c.requires.near looked.0 (length vs) looked.1.within (omega arith)
+          (λ j a b m. looked-all near i looked.0 c.loop-place-test.false looked.1 j a m) after c.requires.spans.started looked.2);
       sources = sources-all c.requires.chosen (length vs) (omega arith)
-          (sources-gap files display c.args.window vs spans c.requires.spans near c.requires.near looked.0 (length vs) looked.1.within (omega arith)
+          (sources-gap files display c.args.window vs spans are near c.requires.near looked.0 (length vs) looked.1.within (omega arith)
           (λ j a b m. looked-all near i looked.0 c.loop-place-test.false looked.1 j a m) after c.requires.chosen looked.3);
       fresh = c.loop-place.invariant.fresh;
-      spans = c.loop-place.invariant.spans;
-      others = c.loop-place.invariant.others;
       marks = c.loop-place.invariant.marks;
       kept = c.loop-place.invariant.kept;
-      shared = c.loop-place.invariant.shared;
+      since = c.loop-place.invariant.since;
     }
 
 pub series_at-requires-clause-chosen : goal.series_at-requires-clause-chosen
@@ -340,9 +278,8 @@ series_at-requires-clause-begin c version there =
     let k = get_or c.args.near.now c.loop-place.place-index 0 in
     let files = map said_by c.args.files.now in
     let display = display_clock c.args.display.now in
-    let are = c.loop-place.invariant.spans.still c.args.window (record { from = omega (arith, ints); same = refl }) c.requires.spans in
     let fits : to_z w64 (of_z w64 c.first_at-begin.result) ≡ c.first_at-begin.result = search rules in
-    let first : c.first_at-begin.result ≡ first_at c.loop-place.spans.items k = search rules in
+    let first : c.first_at-begin.result ≡ first_at c.args.spans.now k = search rules in
     subst (AreFrom files display c.args.window (option_map (λ key. key_rank key.now) c.args.after) (seen version)) (sym (fits ∙ first))
-    (come-first files display c.args.window (map seen vs) c.loop-place.spans.items are k (slice_get-map seen vs k ∙ ap (option_map seen) there)
-    (option_map (λ key. key_rank key.now) c.args.after) c.requires.floor)
+    (come-first files display c.args.window (map seen vs) c.args.spans.now c.requires.spans.are k (slice_get-map seen vs k ∙ ap (option_map seen) there)
+    (option_map (λ key. key_rank key.now) c.args.after) c.requires.spans.started)

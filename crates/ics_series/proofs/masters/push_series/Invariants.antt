@@ -1,4 +1,4 @@
-use Rattle.std.proofs.Common.{ℕ, length, map, take, option_map}
+use Rattle.std.proofs.Common.{◌≡◌, [], ℕ, length, map, take, option_map}
 use Rattle.std.specs.List.{flat_map, AllByRecursion}
 use Rattle.ics_file.specs.File.{said_by}
 use Rattle.ics_starts.specs.Clocks.{display_clock}
@@ -7,15 +7,12 @@ use Rattle.ics_listing.specs.Leads.{IsFresh}
 use Rattle.ics_series.specs.Inner.Kept.{AreKept}
 use Rattle.ics_series.specs.Inner.Marks.{AreMarks}
 use Rattle.ics_series.specs.Inner.Masters.{HasLists, HasSources}
-use Rattle.ics_series.specs.Inner.Shared.{AreShared}
-use Rattle.ics_days.specs.NearPlaces.{AreSameBut}
-use Rattle.ics_series.specs.Inner.Spans.{AreMovedOn}
-use Rattle.ics_series.specs.AgendaParts.{part_coming, part_near, part_sources}
+use Rattle.ics_series.specs.AgendaParts.{part_coming, part_near, part_sources, ComesSince}
 use Rattle.ics_series.specs.Versions.{seen}
 use Rattle.ics_series.proofs.GapLemmas.{IsLookedTo}
 use Rattle.ics_series.proofs.masters.push_series.Given as goal
 
--- the lists of the versions before the next have been added, and the spans and marks are those of the versions
+-- the lists of the versions before the next have been added, and the marks are those of the versions
 abbrev pub invariant-loop-place : goal.invariant-loop-place
 invariant-loop-place l = record {
   looked :
@@ -26,9 +23,9 @@ invariant-loop-place l = record {
       (flat_map (λ x. part_sources x.feed) l.initial.leads.items) (flat_map (λ x. part_sources x.feed) l.leads.items);
   fresh : AllByRecursion (λ x. IsFresh (part_near x.feed) x.head (part_coming x.feed)) l.initial.leads.items
       → AllByRecursion (λ x. IsFresh (part_near x.feed) x.head (part_coming x.feed)) l.leads.items;
-  spans : AreMovedOn (map said_by l.files) (display_clock l.display) l.window l.floor (map seen l.chosen) l.initial.spans.items l.spans.items;
-  others : AreSameBut l.near l.initial.spans.items l.spans.items;
   marks : AreMarks (map said_by l.files) (map seen l.chosen) l.marks.items;
   kept : AreKept (map said_by l.files) (display_clock l.display) l.kept.items;
-  shared : AreShared (map seen l.chosen) l.shared.items;
+  none : l.initial.kept.items ≡ [] → l.kept.items ≡ [];
+  since : l.initial.kept.items ≡ [] → AllByRecursion (λ x. ComesSince x.feed) l.initial.leads.items
+      → AllByRecursion (λ x. ComesSince x.feed) l.leads.items;
 }

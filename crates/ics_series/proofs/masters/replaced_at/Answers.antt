@@ -3,7 +3,6 @@ use Rattle.std.specs.List.Sorted.{IsPartitionedBy, IsSorted}
 use Rattle.std.specs.Str.{bytes_eq}
 use Rattle.std.proofs.lemmas.List.{take_rest}
 use Rattle.std.proofs.lemmas.Option.{slice_get-get_or}
-use Rattle.std.proofs.lemmas.Result.{IfOk-weaker}
 use Rattle.ics_listing.proofs.Cases.{some-same}
 use Rattle.ics_series.specs.Inner.Masters.{named_by}
 use Rattle.ics_series.specs.Versions.{seen}
@@ -47,4 +46,4 @@ returns c = λ version there.
     let own = slice_get-get_or c.args.chosen.now c.args.place c.index-chosen-place.result c.requires.within in
     let same = some-same (get_or c.args.chosen.now c.args.place c.index-chosen-place.result) version (sym own ∙ there) in
     let mine = ap (λ (v : Version). named_by v.subject.uid.now (map seen c.args.chosen.now)) same in
-    IfOk-weaker c.new.result _ _ (λ replaced is. is ∙ (instants-are (goal.at.returns c).In_ok-instants ∙ mine)) c.new.ensures
+    c.new.ensures ∙ (instants-are (goal.at.returns c).In_ok-instants ∙ mine)

@@ -12,16 +12,17 @@ use Rattle.ics_listing.specs.FeedSources.Source.{Of}
 use Rattle.ics_listing.specs.Uids.{AreSortedFrom}
 use Rattle.ics_series.specs.Meets.{IsToCome}
 use Rattle.ics_series.specs.Sources.{AreApart}
+use Rattle.ics_series.proofs.SinceLemmas.{by-result, merged-since, part-since, parts-since}
 use Rattle.ics_series.proofs.SinglesLemmas.{pushed-listing}
 use Rattle.ics_series.proofs.UidLemmas.{parts-sorted}
 use Rattle.ics_series.proofs.SourceLemmas.{sources-behind}
 use Rattle.ics_series.proofs.agenda.Agenda.search.Goals as goal
 
 pub new-requires-clause-near : goal.new-requires-clause-near
-new-requires-clause-near c = rw c.deref.ensures.value c.requires.near
+new-requires-clause-near c = c.requires.near
 
 pub new-requires-clause-spans : goal.new-requires-clause-spans
-new-requires-clause-spans c = (c.args.floor, rw c.deref.ensures.value c.requires.spans)
+new-requires-clause-spans c = (c.requires.spans.floor, c.requires.spans.are)
 
 pub begin-requires : goal.begin-requires
 begin-requires c =
@@ -43,16 +44,12 @@ begin-requires c =
     )
 
 pub invariant_of-self : goal.invariant_of-self
-invariant_of-self c = record {
-  apart = subst (λ m. AreApart (merge_all part_sources m)) (sym c.in_err-begin.ensures.err) c.args.self.now.apart;
-}
-
-pub invariant_of-self-2 : goal.invariant_of-self-2
-invariant_of-self-2 c =
+invariant_of-self c =
     let sources = rw (← flat_map-map part_sources (λ l. l.feed) c.push_first.new.leads.items) at c.in_ok-push_series.ensures.sources in
     record {
-      apart = subst AreApart (sym c.in_ok-begin.ensures.sources)
-          (sources-behind c.requires.chosen c.in_ok-singles.singles c.in_ok-push_first.ensures.first sources).apart;
+      apart = by-result c.begin.result c.begin.ensures.sources c.begin.ensures.err
+          (λ now. subst AreApart (sym now) (sources-behind c.requires.chosen c.in_ok-singles.singles c.in_ok-push_first.ensures.first sources).apart)
+          (λ same. subst (λ m. AreApart (merge_all part_sources m)) (sym same) c.args.self.now.apart);
     }
 
 pub returns : goal.returns
@@ -63,17 +60,19 @@ returns c =
     let first = c.push_first.new.leads.items in
     let sources = rw (← flat_map-map part_sources (λ l. l.feed) first) at c.in_ok-push_series.ensures.sources in
     let lists = rw (← map-map part_coming (λ l. l.feed) first) at c.in_ok-push_series.ensures.lists in
+    let leads = c.push_series.new.leads.items in
+    let are = sources-behind c.requires.chosen c.in_ok-singles.singles c.in_ok-push_first.ensures.first sources in
+    let fresh = c.in_ok-push_series.ensures.fresh c.in_ok-push_first.ensures.fresh in
+    let single = part-since (λ l. l.feed) first (parts-since c.in_ok-singles.singles (map (λ l. l.feed) first) c.in_ok-push_first.ensures.first) in
     record {
-      sources = rw c.in_ok-begin.ensures.sources
-          (sources-behind c.requires.chosen c.in_ok-singles.singles c.in_ok-push_first.ensures.first sources);
+      sources = rw c.in_ok-begin.ensures.sources are;
+      since = λ none. rw (c.in_ok-begin.ensures.sources, c.in_ok-begin.ensures.coming)
+          (merged-since (λ l. l.feed) (λ l. l.head) leads are.apart fresh (c.in_ok-push_series.ensures.since none single));
       listing =
           subst (λ (xs : List Entry). IsListing entry_cmp (IsToCome files display c.args.window after) xs) (sym c.in_ok-begin.ensures.coming)
           (pushed-listing files display c.args.window after c.in_ok-singles.singles c.in_ok-push_first.ensures.first c.requires.chosen c.in_ok-singles.ensures
           lists);
-      spans = c.push_series.ensures.spans;
-      others = c.push_series.ensures.others;
       marks = c.push_series.ensures.marks;
       kept = c.push_series.ensures.kept;
-      shared = c.push_series.ensures.shared;
       err = tt;
     }

@@ -1,4 +1,4 @@
-use Rattle.std.proofs.Common.{◌≡◌, ◌∙◌, map, refl, arith, rules, subst, sym, to_z, of_z, w64}
+use Rattle.std.proofs.Common.{◌≡◌, ◌∙◌, map, refl, arith, rules, subst, sym, to_z, of_z, w32, w64}
 use Rattle.std.specs.List.{AllByRecursion}
 use Rattle.std.proofs.Math.Bridge.{le_prop}
 use Rattle.std.proofs.Math.Logic.{∥∥₁_elim}
@@ -7,9 +7,10 @@ use Rattle.ics_file.specs.File.{said_by}
 use Rattle.ics_series.specs.Ahead.{agenda_coming}
 use Rattle.ics_starts.specs.Clocks.{display_clock}
 use Rattle.ics_series.specs.DaySteps.{agenda_sources, scope_in}
+use Rattle.ics_days.proofs.NearDayLemmas.{bounds-offsets}
 use Rattle.ics_series.proofs.AheadLemmas.{ahead-dropped, day-masters, looked-dropped, no-masters}
 use Rattle.ics_series.proofs.KnownLemmas.{each-of, parts-of}
-use Rattle.ics_series.proofs.OverLemmas.{ended-none, over-all}
+use Rattle.ics_series.proofs.OverLemmas.{over-all}
 use Rattle.ics_series.proofs.ReachLemmas.{places-moved}
 use Rattle.ics_series.proofs.SpanLemmas.{chosen-back}
 use Rattle.ics_series.specs.Inner.Ended.{begins_after, IsOver, IsOverPart}
@@ -27,7 +28,11 @@ invariant_of-self c =
     let more = c.requires.more in
     let files = map said_by self.files.now in
     let display = display_clock self.display.now in
-    let lasts-fit : to_z w64 (of_z w64 c.args.self.now.today.lasts) ≡ c.args.self.now.today.lasts = search rules in
+    let by = to_z w64 (of_z w64 c.begin_after-by.result) in
+    let by-fits : to_z w64 (of_z w64 c.begin_after-by.result) ≡ c.begin_after-by.result = search rules in
+    let day-fits : to_z w32 (of_z w32 c.args.self.now.today.day) ≡ c.args.self.now.today.day = search rules in
+    let ends : to_z w64 (of_z w64 c.begin_after-by.result) ≡ begins_after c.args.self.now.bounds c.args.self.now.today.day =
+    by-fits ∙ rw day-fits at c.begin_after-by.ensures in
     record {
       chosen = self.chosen;
       overriding = self.overriding;
@@ -38,12 +43,11 @@ invariant_of-self c =
       bounded = self.bounded;
       spanned = ∥∥₁_elim c.args.self.now.masters
           (spans-after-prop files display self.bounds self.window self.today.day (map seen self.versions.items) c.give_back.new.spans.items) (λ are.
-          (rw (lasts-fit, c.deref.ensures.value) at c.give_back.ensures.spans).still scope self.today.day
+          (rw c.deref.ensures.value at c.give_back.ensures.spans).still scope self.today.day
           (chosen-back files display self.versions.items self.chosen)
-          (subst (AllByRecursion (λ l. IsOverPart scope self.today.day self.today.lasts l.feed)) (sym c.end-leads.ensures.leads)
-          (each-of (IsOver scope self.today.day self.today.lasts) (λ l. l.feed) self.today.agenda.merge.leads.items
-          (over-all scope self.today.day self.today.lasts (recurring (agenda_sources self.today.agenda)) c.requires.none
-          self.today.agenda.apart.1.0 are self.ended)))
+          (subst (AllByRecursion (λ l. IsOverPart scope self.today.day c.floor_of.result by l.feed)) (sym c.end-leads.ensures.leads)
+          (each-of (IsOver scope self.today.day c.floor_of.result by) (λ l. l.feed) self.today.agenda.merge.leads.items
+          (over-all scope self.today.day (recurring (agenda_sources self.today.agenda)) c.floor_of.ensures ends self.today.agenda.apart.1.0 are)))
           self.spanned);
       marked = ∥∥₁_elim c.args.self.now.masters (marks-prop files (map seen self.versions.items) c.give_back.new.marks.items) (λ are.
           (rw c.deref.ensures.value at c.give_back.ensures.marks).still files display (chosen-back files display self.versions.items self.chosen)
@@ -55,7 +59,6 @@ invariant_of-self c =
           (subst (AllByRecursion (λ l. IsPartOf files display l.feed)) (sym c.end-leads.ensures.leads)
           (parts-of files display (λ l. l.feed) self.today.agenda.merge.leads.items
           (day-masters scope self.today.day (recurring (agenda_sources self.today.agenda)) are))) self.known);
-      sharing = self.sharing;
       not_before = self.not_before;
       begun = self.begun;
       masters = ∣ no-masters scope self.today.day c.end-leads.ensures.sources ∣₁;
@@ -67,8 +70,6 @@ invariant_of-self c =
       shown = self.shown;
       within = self.within;
       below = self.below;
-      ended = λ late. ended-none files display (agenda_coming c.end-leads.new.self) (begins_after self.bounds self.today.day)
-          self.today.lasts c.end-leads.ensures.sources;
     }
 
 pub returns-clause-counted : goal.returns-clause-counted
@@ -78,3 +79,8 @@ pub returns-clause-ahead : goal.returns-clause-ahead
 returns-clause-ahead c = λ list a.
     let self = c.args.self.now in
     ahead-dropped (map said_by self.files.now) (display_clock self.display.now) self.window self.today.day c.requires.none c.end-leads.ensures.none list a
+
+pub begin_after-by-requires : goal.begin_after-by-requires
+begin_after-by-requires c =
+    let self = c.args.self.now in
+    bounds-offsets (display_clock self.display.now) self.window self.bounds self.bounded

@@ -1,4 +1,4 @@
-use Rattle.std.proofs.Common.{rules, ◌≡◌, ◌∙◌, filter, length, map, refl, ap, subst, sym, arith, to_z, of_z, w32, w64, ◌≤ℤ◌, option_map}
+use Rattle.std.proofs.Common.{rules, ◌≡◌, ◌∙◌, filter, length, map, refl, ap, subst, sym, arith, to_z, of_z, w32, ◌≤ℤ◌, option_map}
 use Rattle.std.proofs.lemmas.Int.{ints}
 use Rattle.std.proofs.lemmas.List.{length-map}
 use Rattle.ics_file.specs.File.{said_by}
@@ -12,39 +12,34 @@ use Rattle.ics_days.specs.NearDays.{first_near}
 use Rattle.ics_series.specs.Versions.{is_override, seen}
 use Rattle.ics_series.proofs.AheadLemmas.{begun-ahead, begun-by, day-keys, first-masters, from-start, looked-before}
 use Rattle.ics_series.proofs.MarkLemmas.{marks-none}
-use Rattle.ics_series.proofs.OverLemmas.{first-ended}
 use Rattle.ics_series.proofs.SpanLemmas.{those-chosen}
 use Rattle.ics_series.proofs.WholeLemmas.{keys, masters-listed, whole}
-use Rattle.ics_series.specs.Inner.Ended.{begins_after}
 use Rattle.ics_series.specs.Inner.Kept.{AreKept}
 use Rattle.ics_series.proofs.days.Days.new.Goals as goal
 
 pub agenda_of-requires-clause-marks : goal.agenda_of-requires-clause-marks
 agenda_of-requires-clause-marks c =
-    marks-none (map said_by c.args.files.now) (map seen c.deref-6.result.now) c.add_places.new.marks.items c.in_ok-add_places.ensures
+    marks-none (map said_by c.args.files.now) (map seen c.deref-4.result.now) c.add_places.new.marks.items c.in_ok-add_places.ensures
 
 pub agenda_of-requires-clause-overrides : goal.agenda_of-requires-clause-overrides
 agenda_of-requires-clause-overrides c =
-    ap (map seen) c.deref-7.ensures.value
-    ∙ (c.in_ok-overrides.ensures ∙ ap (λ vs. filter is_override (map seen vs)) (c.deref.ensures.value ∙ sym c.deref-6.ensures.value))
+    ap (map seen) c.deref-5.ensures.value
+    ∙ (c.in_ok-overrides.ensures ∙ ap (λ vs. filter is_override (map seen vs)) (c.deref.ensures.value ∙ sym c.deref-4.ensures.value))
 
 pub agenda_of-requires-clause-count : goal.agenda_of-requires-clause-count
 agenda_of-requires-clause-count c =
     c.in_ok-near.ensures.count ∙ (ap length c.deref-3.ensures.value
     ∙ (ap length c.in_ok-spans.ensures
-    ∙ (length-map _ _ ∙ (length-map c.deref-2.result.now seen ∙ ap length (c.deref-2.ensures.value ∙ sym c.deref-6.ensures.value)))))
+    ∙ (length-map _ _ ∙ (length-map c.deref-2.result.now seen ∙ ap length (c.deref-2.ensures.value ∙ sym c.deref-4.ensures.value)))))
 
 pub agenda_of-requires-clause-places : goal.agenda_of-requires-clause-places
-agenda_of-requires-clause-places c = rw c.deref-3.ensures.value at c.in_ok-near.ensures.has
+agenda_of-requires-clause-places c = rw c.deref-6.ensures.value (rw c.deref-3.ensures.value at c.in_ok-near.ensures.has)
 
 pub agenda_of-requires-clause-kept : goal.agenda_of-requires-clause-kept
 agenda_of-requires-clause-kept c =
     let files = map said_by c.args.files.now in
     let display = display_clock c.args.display.now in
     c.add_kept.ensures files display (subst (AreKept files display) (sym c.new-kept.ensures.items) tt)
-
-pub agenda_of-requires-clause-shared : goal.agenda_of-requires-clause-shared
-agenda_of-requires-clause-shared c = c.in_ok-shared.ensures (map seen c.deref-6.result.now)
 
 pub returns : goal.returns
 returns c =
@@ -90,13 +85,12 @@ invariant_of-result c =
       overriding = rw c.deref.ensures.value at c.in_ok-overrides.ensures;
       counted = c.agenda_of.ensures.count ∙ (c.in_ok-near.ensures.count ∙ (ap length c.deref-3.ensures.value
           ∙ (ap length spanned ∙ (length-map _ _ ∙ length-map _ _))));
-      reached = c.agenda_of.ensures.places;
+      reached = rw c.deref-6.ensures.value at c.agenda_of.ensures.places;
       bounded = c.bounds_in-bounds.ensures;
-      sized = c.agenda_of.ensures.size ∙ (ap length spanned ∙ (length-map _ _ ∙ length-map _ _));
-      spanned = rw c.deref-6.ensures.value at c.agenda_of.ensures.spans;
-      marked = rw c.deref-6.ensures.value at c.agenda_of.ensures.marks;
+      sized = ap length spanned ∙ (length-map _ _ ∙ length-map _ _);
+      spanned = rw (c.deref-4.ensures.value, c.deref-6.ensures.value) at c.agenda_of.ensures.spans;
+      marked = rw c.deref-4.ensures.value at c.agenda_of.ensures.marks;
       known = c.agenda_of.ensures.kept;
-      sharing = rw c.deref-6.ensures.value at c.agenda_of.ensures.shared;
       not_before = first;
       begun = rw c.day_and_start.ensures
           (begun-by (first_near c.args.window c.bounds_in-bounds.result) after (to_z w32 (of_z w32 c.begin-day.result.0)) key behind first);
@@ -107,10 +101,4 @@ invariant_of-result c =
       shown = λ t from to. subst (λ d. date_at (display_clock c.args.display.now) t ≤ℤ d) (sym last) (c.last_shown-last.ensures.shown t from to);
       within = omega (arith, ints, last, c.last_shown-last.ensures.near);
       below = c.key_below-floor.ensures;
-      ended = λ early.
-          let fits : to_z w64 (of_z w64 c.none_given-lasts.result) ≡ c.none_given-lasts.result = search rules in
-          let none = c.none_given-lasts.ensures (omega (arith, ints, early, fits)) in
-          first-ended (map said_by c.args.files.now) (display_clock c.args.display.now)
-          (begins_after c.bounds_in-bounds.result (to_z w32 (of_z w32 c.begin-day.result.0))) (to_z w64 (of_z w64 c.none_given-lasts.result))
-          (agenda_coming c.in_ok-agenda.agenda) (agenda_sources c.in_ok-agenda.agenda) none c.in_ok-agenda.ensures.agenda;
     }

@@ -1,4 +1,4 @@
-use Rattle.std.proofs.Common.{◌≡◌, ◌∙◌, ◌<ℤ◌, map, option_map, true, subst, sym, arith, rules, to_z, of_z, w32, w64}
+use Rattle.std.proofs.Common.{◌≡◌, ◌∙◌, ◌<ℤ◌, map, option_map, true, subst, sym, arith, rules, to_z, of_z, w32}
 use Rattle.ics_days.specs.ShownDays.{is_on}
 use Rattle.ics_listing.specs.Entry.{key_rank}
 use Rattle.std.proofs.Math.Bridge.{le_prop}
@@ -7,17 +7,16 @@ use Rattle.std.proofs.lemmas.Int.{ints}
 use Rattle.ics_file.specs.File.{said_by}
 use Rattle.ics_series.specs.Ahead.{agenda_coming}
 use Rattle.ics_starts.specs.Clocks.{display_clock}
-use Rattle.ics_listing.specs.Merges.{merge_all, merge_coming}
-use Rattle.ics_series.specs.AgendaParts.{part_coming, part_sources}
+use Rattle.ics_listing.specs.Merges.{merge_all}
+use Rattle.ics_series.specs.AgendaParts.{part_sources}
 use Rattle.ics_series.specs.DaySteps.{agenda_sources, scope_in, AreDayMasters, IsLookedBefore}
-use Rattle.ics_series.specs.Inner.Ended.{begins_after, HaveEnded}
 use Rattle.ics_days.specs.NearDays.{first_near}
 use Rattle.ics_days.proofs.NearDayLemmas.{bounds-offsets, day-fits}
 use Rattle.ics_series.specs.Sources.{recurring}
+use Rattle.ics_series.specs.Versions.{seen}
 use Rattle.ics_series.proofs.AheadLemmas.{ahead-turned, from-later, looked-before, looked-next, searched-masters}
-use Rattle.ics_series.proofs.OverLemmas.{ended-first}
-use Rattle.ics_series.proofs.ReachLemmas.{near-of, places-moved, places-next, places-same}
-use Rattle.ics_series.proofs.SpanLemmas.{after-next, after-same, chosen-back, none-between}
+use Rattle.ics_series.proofs.ReachLemmas.{near-of, places-next, places-same}
+use Rattle.ics_series.proofs.SpanLemmas.{after-later, chosen-back, near-spans, none-between}
 use Rattle.ics_series.proofs.days.Days.turn.Goals as goal
 
 pub near_day-near-requires : goal.near_day-near-requires
@@ -59,7 +58,7 @@ search-requires-clause-near c =
     let self = c.args.self.now in
     let near = c.near_day-near.result in
     let reached = rw c.deref-3.ensures.value at c.in_ok-reach.ensures.reached in
-    rw (c.deref-6.ensures.value, c.deref-4.ensures.value)
+    rw (c.deref-6.ensures.value, c.deref-4.ensures.value, c.deref-7.ensures.value)
     (near-of c.reach.new.self self.spans.items near (c.reach.ensures.count ∙ self.counted) self.sized
     (reached (self.reached (display_clock self.display.now) (to_z w32 (of_z w32 c.next_day-day.result)) near
     (omega (arith, ints, c.next_day-day.type_inv, c.next_day-day.ensures.later)) c.near_day-near.ensures)))
@@ -69,18 +68,17 @@ search-requires-clause-chosen c =
     let self = c.args.self.now in
     rw c.deref-4.ensures.value (chosen-back (map said_by self.files.now) (display_clock self.display.now) self.versions.items self.chosen)
 
-pub search-requires-clause-shared : goal.search-requires-clause-shared
-search-requires-clause-shared c = rw c.deref-4.ensures.value c.args.self.now.sharing
-
-pub search-requires-clause-floor : goal.search-requires-clause-floor
-search-requires-clause-floor c = rw (← c.floor_of.ensures) at c.key_near-key.ensures.floor
+pub begin_after-requires : goal.begin_after-requires
+begin_after-requires c =
+    let self = c.args.self.now in
+    bounds-offsets (display_clock self.display.now) self.window self.bounds self.bounded
 
 pub search-requires-clause-spans : goal.search-requires-clause-spans
 search-requires-clause-spans c =
     let self = c.args.self.now in
-    rw (c.deref-4.ensures.value, c.floor_of.ensures)
-    (self.spanned (to_z w32 (of_z w32 c.next_day-day.result)) c.near_day-near.result
-    (omega (arith, ints, c.next_day-day.type_inv, c.next_day-day.ensures.later)) c.near_day-near.ensures)
+    rw (c.deref-4.ensures.value, c.deref-7.ensures.value)
+    (near-spans (map said_by self.files.now) (display_clock self.display.now) self.bounds self.window (map seen self.versions.items) self.spans.items
+    self.spanned (omega (arith, ints, c.next_day-day.type_inv, c.next_day-day.ensures.later)) c.near_day-near.ensures c.key_near-key.ensures.floor)
 
 -- no day was turned to, but places may have been reached
 pub invariant_of-self : goal.invariant_of-self
@@ -100,7 +98,6 @@ invariant_of-self c =
       reached = places-same self.places c.reach.new.self self.spans.items c.near_day-near.ensures has none self.reached;
       marked = self.marked;
       known = self.known;
-      sharing = self.sharing;
       not_before = self.not_before;
       begun = self.begun;
       masters = self.masters;
@@ -109,10 +106,9 @@ invariant_of-self c =
       shown = self.shown;
       within = self.within;
       below = self.below;
-      ended = self.ended;
     }
 
--- no day was turned to, but places may have been reached, and spans and marks moved on
+-- no day was turned to, but places may have been reached, and marks put
 -- the places that are reached are in order
 pub invariant_of-self-2 : goal.invariant_of-self-2
 invariant_of-self-2 c =
@@ -126,7 +122,6 @@ invariant_of-self-in-Break-branch-2 c =
     let display = display_clock self.display.now in
     let scope = scope_in files display self.bounds self.window self.after in
     let same-merge = sym c.in_err-search.ensures.err in
-    let moved = rw (c.deref-4.ensures.value, c.floor_of.ensures) at c.search.ensures.spans in
     let same : to_z w32 (of_z w32 c.next_day-day.result) ≡ c.next_day-day.result = omega (arith, ints, c.next_day-day.type_inv) in
     let fits : to_z w32 (of_z w32 c.args.self.now.today.day) ≡ c.args.self.now.today.day = search rules in
     let none = rw (fits, ← same, c.deref.ensures.value) at c.next_day-day.ensures.none in
@@ -134,16 +129,13 @@ invariant_of-self-in-Break-branch-2 c =
       chosen = self.chosen;
       overriding = self.overriding;
       counted = c.reach.ensures.count ∙ self.counted;
-      reached = places-moved c.reach.new.self self.spans.items c.search.new.spans.items (rw c.deref-6.ensures.value at c.search.ensures.others)
-          (places-same self.places c.reach.new.self self.spans.items c.near_day-near.ensures (rw c.deref-3.ensures.value at c.reach.ensures.has) none
-          self.reached);
+      reached = places-same self.places c.reach.new.self self.spans.items c.near_day-near.ensures (rw c.deref-3.ensures.value at c.reach.ensures.has) none
+          self.reached;
       bounded = self.bounded;
-      sized = moved.size ∙ self.sized;
-      spanned = after-same files display self.bounds self.window self.versions.items self.sized self.spanned c.near_day-near.ensures moved
-          (chosen-back files display self.versions.items self.chosen) none;
+      sized = self.sized;
+      spanned = self.spanned;
       marked = rw c.deref-4.ensures.value at c.search.ensures.marks;
       known = c.search.ensures.kept;
-      sharing = rw c.deref-4.ensures.value at c.search.ensures.shared;
       not_before = self.not_before;
       begun = self.begun;
       masters = subst (λ m. ∥ AreDayMasters scope self.today.day (merge_all part_sources m) ∥₁) same-merge self.masters;
@@ -152,8 +144,6 @@ invariant_of-self-in-Break-branch-2 c =
       shown = self.shown;
       within = self.within;
       below = self.below;
-      ended = subst (λ m. HaveEnded files display (merge_coming part_coming m) (begins_after self.bounds self.today.day) self.today.lasts
-          (merge_all part_sources m)) same-merge self.ended;
     }
 
 pub invariant_of-self-3 : goal.invariant_of-self-3
@@ -166,7 +156,6 @@ invariant_of-self-3 c =
     let begun = self.begun in
     let files = map said_by self.files.now in
     let display = display_clock self.display.now in
-    let moved = rw (c.deref-4.ensures.value, c.floor_of.ensures) at c.search.ensures.spans in
     let masters = searched-masters scope (option_map (λ key. key_rank key.now) c.key_near-key.result) c.near_day-near.ensures
     (λ since f. from-later (first_near self.window self.bounds) self.after self.begun (omega (arith, ints, day, next.ensures.later)) since)
     (recurring (agenda_sources c.search.new.self)) c.in_ok-search.ensures.sources.each in
@@ -174,16 +163,14 @@ invariant_of-self-3 c =
       chosen = self.chosen;
       overriding = self.overriding;
       counted = c.reach.ensures.count ∙ self.counted;
-      reached = places-moved c.reach.new.self self.spans.items c.search.new.spans.items (rw c.deref-6.ensures.value at c.search.ensures.others)
-          (places-next self.places c.reach.new.self self.spans.items c.near_day-near.ensures (rw c.deref-3.ensures.value at c.reach.ensures.has)
-          (omega (arith, ints, day, next.ensures.later)) self.reached);
+      reached = places-next self.places c.reach.new.self self.spans.items c.near_day-near.ensures (rw c.deref-3.ensures.value at c.reach.ensures.has)
+          (omega (arith, ints, day, next.ensures.later)) self.reached;
       bounded = self.bounded;
-      sized = moved.size ∙ self.sized;
-      spanned = after-next files display self.bounds self.window self.versions.items self.sized self.spanned c.near_day-near.ensures moved
+      sized = self.sized;
+      spanned = after-later files display self.bounds self.window (map seen self.versions.items) self.spans.items self.spanned
           (omega (arith, ints, day, next.ensures.later));
       marked = rw c.deref-4.ensures.value at c.search.ensures.marks;
       known = c.search.ensures.kept;
-      sharing = rw c.deref-4.ensures.value at c.search.ensures.shared;
       not_before = omega (arith, ints, day, next.ensures.later, self.not_before);
       begun = omega (arith, ints, day, next.ensures.later, begun);
       masters = ∣ masters ∣₁;
@@ -197,12 +184,6 @@ invariant_of-self-3 c =
       shown = self.shown;
       within = self.within;
       below = self.below;
-      ended = λ early.
-          let fits : to_z w64 (of_z w64 c.none_given-self.result) ≡ c.none_given-self.result = search rules in
-          ended-first files display c.near_day-near.result (begins_after self.bounds (to_z w32 (of_z w32 c.next_day-day.result)))
-          (to_z w64 (of_z w64 c.none_given-self.result)) (agenda_coming c.search.new.self) (agenda_sources c.search.new.self)
-          (c.none_given-self.ensures (omega (arith, ints, early, fits))) c.in_ok-search.ensures.listing
-          c.in_ok-search.ensures.sources.each;
     }
 
 pub returns-clause-day : goal.returns-clause-day

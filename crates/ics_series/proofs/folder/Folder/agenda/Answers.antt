@@ -5,5 +5,6 @@ returns c = record {
   listing = rw (← c.self.view_is, ← c.deref.ensures.value) c.new.ensures.listing;
   behind = rw (← c.self.view_is, ← c.deref.ensures.value) c.new.ensures.behind;
   sources = rw (← c.self.view_is, ← c.deref.ensures.value) c.new.ensures.sources;
+  since = c.new.ensures.since;
   keys = rw (← c.self.view_is, ← c.deref.ensures.value) c.new.ensures.keys;
 }

@@ -1,26 +1,31 @@
-use Rattle.std.proofs.Common.{◌≡◌, ◌∙◌, Option, Vec, Global, ap, rules, sym, subst, to_z, of_z, w64}
-use Rattle.ics_starts.specs.declared.series.Series.{Series}
-use Rattle.ics_series.specs.Inner.Kept.{IsEventOfMaster, IsPartOf}
+use Rattle.std.proofs.Common.{◌≡◌, Option, Vec, Global, ap, rules, sym, subst, to_z, of_z, w64}
+use Rattle.ics_series.specs.Inner.Kept.{IsOfMaster, IsPartOf}
 use Rattle.ics_series.specs.Inner.Ended.{AreMovedOff, IsOverPart}
 use Rattle.ics_series.specs.Inner.Marks.{StayMarks}
 use Rattle.ics_days.specs.declared.span.Span.{Span}
 use Rattle.ics_starts.specs.declared.mark.Mark.{Mark}
-use Rattle.ics_series.proofs.OverLemmas.{moved-as, moved_none, stay_none}
+use Rattle.ics_series.proofs.OverLemmas.{kept-rest, moved-as, moved_none, stay_none}
 use Rattle.ics_series.proofs.part.Part.end.Goals as goal
 use Rattle.ics_series.proofs.part.Part.end.Goals.{then-far, else-far}
 
+pub move_off-requires : goal.move_off-requires
+move_off-requires c =
+    let fits : to_z w64 (of_z w64 c.least_lasting-least.result) ≡ c.least_lasting-least.result = search rules in
+    record { least = rw fits (rw c.deref.ensures at c.least_lasting-least.ensures) }
+
 pub returns-clause-kept : goal.returns-clause-kept
 returns-clause-kept c = λ files display part.
-    let own : IsEventOfMaster files display c.in-Series.placed.series.value.event.now = subst (IsPartOf files display) c.in-Series.is part in
-    subst (IsEventOfMaster files display) (sym (ap (λ e. e.now) c.rest.ensures ∙ ap (λ (s : Series). s.event.now) c.deref_mut.ensures.value)) own
+    let own : IsOfMaster files display c.in-Series.placed.series.value = subst (IsPartOf files display) c.in-Series.is part in
+    kept-rest files display (subst (IsOfMaster files display) (sym c.deref_mut.ensures.value) own)
+    c.rest.ensures.zones c.rest.ensures.event c.rest.ensures.replaced
 
 pub returns-clause-spans : goal.returns-clause-spans
 returns-clause-spans c =
-    let Are = AreMovedOff c.args.versions.now c.args.near.now (λ s day. IsOverPart s day c.args.least c.args.self) c.args.spans.now.items in
-    let fits : to_z w64 (of_z w64 c.args.least) ≡ c.args.least = search rules in
+    let Are = AreMovedOff c.args.versions.now c.args.near.now (λ s day. IsOverPart s day c.args.floor c.args.by c.args.self) c.args.spans.now.items in
+    let fits : to_z w64 (of_z w64 c.args.by) ≡ c.args.by = search rules in
     elim c.if-far.branch [
       | then-far w ↦ subst Are (sym (ap (λ (p : Vec Span Global). p.items) w.spans-is))
-          (moved-as (rw fits at w.move_off.ensures.spans) (λ s day. subst (IsOverPart s day c.args.least) c.in-Series.is))
+          (moved-as (rw fits at w.move_off.ensures.spans) (λ s day. subst (IsOverPart s day c.args.floor c.args.by) c.in-Series.is))
       | else-far w ↦ subst Are (sym (ap (λ (p : Vec Span Global). p.items) w.spans-is)) (moved_none c.args.spans.now.items)
     ]
 

@@ -1,3 +1,8 @@
+use Rattle.std.proofs.Common.{ap, refl}
+use Rattle.ics_listing.specs.KnownStarts.{listed_left}
+use Rattle.ics_listing.specs.StartOrder.{moment_cmp}
+use Rattle.ics_listing.specs.Merged.{union}
+use Rattle.ics_starts.specs.SeriesFeed.{series_of}
 use Rattle.ics_starts.proofs.SeriesLemmas.{read}
 use Rattle.ics_starts.proofs.series.Series.rest.Goals as goal
 
@@ -14,4 +19,11 @@ invariant_of-self c =
       ruled = s.ruled;
       own_rule = s.own_rule;
       rising = s.rising;
+    }
+
+pub returns : goal.returns
+returns c =
+    let s = c.args.self.now in record {
+      coming = ap (λ xs. series_of s (union moment_cmp xs (listed_left s.listed))) c.rest_rule.ensures.left;
+      same = record { zones = refl; event = refl; window = refl; since = refl; replaced = refl; rule = c.rest_rule.ensures.rule };
     }

@@ -1,0 +1,3 @@
+pub mod InstanceLemmas
+pub mod RisingLemmas
+pub mod ContinuedLemmas

@@ -1,0 +1,4 @@
+pub mod Continued
+pub mod Ends
+pub mod Lasting
+pub mod Inner
