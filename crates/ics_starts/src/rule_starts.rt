@@ -60,6 +60,9 @@ const DAY: i64 = 86_400;
 /// How many seconds pass before the clock is asked anew, where it tells no stretch.
 const MINUTE: i64 = 60;
 
+/// A local that is no more seconds than these behind the window comes soon.
+const SOON: i64 = 2 * DAY;
+
 /// The starts that a rule gives before a window's end. All locals before the midnight of `day` have
 /// been read, and so have those whose seconds are before `next`. Those of their starts that were not
 /// given yet are held.
@@ -883,9 +886,9 @@ impl<'a> RuleStarts<'a> {
         settled_from(stretch, self.bounds.most, first)
     }
 
-    /// The stretch that is known or, where that does not hold a local, given by its seconds, the one about it that the display clock tells. The clock
+    /// The stretch that is known or, where that does not hold a local, given by its seconds, the one about it that the clock tells. The clock
     /// is not asked where its offsets are no further apart than the local is from the beginning of its day: by each of them it is that day. Nor is a
-    /// zone of the file, since a stretch of one that changes its clock many times a day takes long.
+    /// zone of the file about a local that comes soon, since a stretch of one that changes its clock many times a day takes long.
     fn stretch_about(&self, local: Moment) -> Stretch
         requires { IsMoment local }
         ensures { IsStretched (clock_of (clocks_in self.now.zones) self.now.event.now.start) result }
@@ -893,8 +896,9 @@ impl<'a> RuleStarts<'a> {
         let event = self.event;
         let apart = self.bounds.most - self.bounds.least;
         let time = local.saturating_add(EPOCH) % DAY;
-        let zoned = is_zoned(event.start.stamp);
-        if zoned || apart <= time || is_in(self.stretch, local) {
+        let is_soon = local <= self.window.to.saturating_add(SOON);
+        let is_left = is_soon && is_zoned(event.start.stamp);
+        if is_left || apart <= time || is_in(self.stretch, local) {
             return self.stretch;
         }
         stretch(self.zones, event.start, local)
