@@ -1,9 +1,19 @@
 //! The bytes of a file of the system.
 use crate::fault::SourceFault;
-use std::alloc::Global;
+use std::alloc::{AllocError, Global};
 use std::fs::{self, File};
 use std::io::{self, ErrorKind, Read};
 use std::rt::Files;
+
+/// The path of the file with this name in a folder. Room is made for it once.
+fn path_of(alloc: Global, folder: &str, name: &str) -> Result<String, AllocError> {
+    let length = folder.len().saturating_add(name.len()).saturating_add(1);
+    let mut path = String::with_capacity(alloc, length)?;
+    path.push_str(folder)?;
+    path.push('/')?;
+    path.push_str(name)?;
+    Ok(path)
+}
 
 /// The first bytes of the file with this name in a folder, at most `most`; None if the path leads nowhere or
 /// through a file. It is Device for anything that is no regular file.
@@ -14,7 +24,7 @@ pub(crate) fn read_front<R: Files>(
     name: &str,
     most: u64,
 ) -> Result<Option<Vec<u8>>, SourceFault> {
-    let Ok(path) = format!(in alloc; "{folder}/{name}") else {
+    let Ok(path) = path_of(alloc, folder, name) else {
         return Err(SourceFault::Memory);
     };
     read_path(rt, alloc, path.as_str(), most)

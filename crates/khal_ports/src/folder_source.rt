@@ -57,7 +57,7 @@ fn list<R: Files + AllocGlobal + Clone>(rt: &R, path: &str) -> io::Result<(Vec<S
             }
         }
     }
-    names.sort()?;
+    names.sort_unstable();
     Ok((names, unnamed))
 }
 
