@@ -1,5 +1,5 @@
 //! A component that is being built of its lines.
-ghost use Rattle.std.specs.Prelude.{◌≡◌, [], None, false, true};
+ghost use Rattle.std.specs.Prelude.{◌≡◌, [], None, false, true, IfOk};
 ghost use Rattle.ics_components.specs.Builders.{builder_at, zone_ended};
 ghost use Rattle.ics_components.specs.Lines.{Gives, Keeps, is_mark, line_fault, end_fault, zone_note, context_at, line_result};
 ghost use Rattle.ics_components.specs.declared.builder.Builder.TheVariants.{Zone};
@@ -7,23 +7,23 @@ ghost use Rattle.ics_components.specs.declared.parsed_file.ClosedComponent.TheVa
 
 use crate::component::Context;
 use crate::deferred_check::ZoneName;
-use crate::event_fields::EventFields;
 use crate::fault::FaultKind;
 use crate::listed::Listed;
 use crate::name::Name;
 use crate::observance_builder::ObservanceBuilder;
+use crate::open_event::OpenEvent;
 use crate::parsed_file::{CalendarZone, ClosedComponent, LineResult};
 use crate::refused::Refused;
 use crate::tzid::{Tzid, Tzids};
 use ics_text::Content;
 use ics_values::Observance;
-use std::alloc::Global;
+use std::alloc::{AllocError, Global};
 
 /// What has been read of a component so far, by where its lines stand.
 #[derive(Drop)]
 pub enum Builder {
     Calendar,
-    Event(EventFields),
+    Event(OpenEvent),
     Zone(ZoneBuilder),
     Observance(ObservanceBuilder),
     Elsewhere,
@@ -94,12 +94,12 @@ impl Builder {
     }
 
     /// What a component has that has only begun, by where its lines stand.
-    pub fn fresh(alloc: Global, context: Context) -> Builder
-        ensures { result ≡ builder_at [] [] context }
+    pub fn fresh(alloc: Global, context: Context) -> Result<Builder, AllocError>
+        ensures { IfOk result (λ builder. builder ≡ builder_at [] [] context) }
     {
-        match context {
+        Ok(match context {
             Context::Calendar => Builder::Calendar,
-            Context::Event => Builder::Event(EventFields::nothing(alloc)),
+            Context::Event => Builder::Event(OpenEvent::begun(alloc)?),
             Context::Zone => Builder::Zone(ZoneBuilder {
                 name: None,
                 observances: Listed {
@@ -108,6 +108,6 @@ impl Builder {
             }),
             Context::Observance => Builder::Observance(ObservanceBuilder::nothing(alloc)),
             Context::Outside | Context::Elsewhere => Builder::Elsewhere,
-        }
+        })
     }
 }

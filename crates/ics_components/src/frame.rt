@@ -13,7 +13,8 @@ use crate::builder::Builder;
 use crate::component::Component;
 use crate::fault::FaultKind;
 use crate::name::Name;
-use crate::parsed_file::{CalendarEvent, ClosedComponent, LineResult, ParsedFile};
+use crate::open_event::EndedEvent;
+use crate::parsed_file::{ClosedComponent, LineResult, ParsedFile};
 use crate::refused::Refused;
 use crate::tzid::Tzids;
 use ics_text::Content;
@@ -92,7 +93,7 @@ impl Frame {
                 _ => Ok(()),
             },
             Builder::Event(had) => {
-                if let Some(check) = had.line(alloc, tzids, self.calendar, name, content)? {
+                if let Some(check) = had.fields.line(alloc, tzids, self.calendar, name, content)? {
                     parsed.check(number, check)?;
                 }
                 Ok(())
@@ -115,13 +116,13 @@ impl Frame {
         }
         let (calendar, builder) = (self.calendar, self.builder);
         match builder {
-            Builder::Event(fields) => match fields.end(calendar) {
+            Builder::Event(event) => match event.fields.end(calendar) {
                 Ok(check) => Ok(LineResult {
-                    ended: ClosedComponent::Event(CalendarEvent { calendar, fields }),
+                    ended: ClosedComponent::Event(EndedEvent { calendar, event }),
                     check,
                 }),
                 Err(refused) => {
-                    drop(fields);
+                    drop(event);
                     Err(refused)
                 }
             },

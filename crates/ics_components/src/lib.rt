@@ -20,6 +20,7 @@ mod local_time;
 mod name;
 mod observance_builder;
 mod observances;
+mod open_event;
 mod open_part;
 mod parsed_file;
 mod parted;

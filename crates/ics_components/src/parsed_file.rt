@@ -7,6 +7,7 @@ ghost use Rattle.ics_components.specs.declared.parsed_file.ClosedComponent.TheVa
 use crate::deferred_check::{DeferredCheck, ZoneName};
 use crate::event_fields::EventFields;
 use crate::listed::Listed;
+use crate::open_event::EndedEvent;
 use ics_values::Observance;
 use std::alloc::{AllocError, Global};
 use std::marker::Model;
@@ -29,7 +30,7 @@ pub struct CalendarEvent {
 #[derive(Drop)]
 pub enum ClosedComponent {
     Zone(CalendarZone),
-    Event(CalendarEvent),
+    Event(EndedEvent),
     Nothing,
 }
 
@@ -106,7 +107,7 @@ impl ParsedFile {
     {
         match ended {
             ClosedComponent::Zone(zone) => self.zones.push(zone)?,
-            ClosedComponent::Event(event) => self.events.push(event)?,
+            ClosedComponent::Event(event) => self.events.push(event.into_event())?,
             ClosedComponent::Nothing => {}
         }
         Ok(())

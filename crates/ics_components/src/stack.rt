@@ -120,7 +120,7 @@ impl Stack {
         if self.outer.len() >= MAX_DEPTH {
             return Err(Refused::Fault(FaultKind::TooDeep));
         }
-        let builder = Builder::fresh(alloc, component.context_in(context));
+        let builder = Builder::fresh(alloc, component.context_in(context))?;
         let inner = Frame {
             component,
             calendar,
