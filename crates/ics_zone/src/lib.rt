@@ -34,6 +34,7 @@ mod stretches;
 mod sweep;
 mod table;
 mod times;
+mod turns;
 mod walk;
 mod zone;
 mod zone_fault;

@@ -26,6 +26,7 @@ use crate::seconds::OffsetEachSecond;
 use crate::spans::{SpanList, told_stretch};
 use crate::stretches::span_over;
 use crate::table::{first_instant, next_of, onset_of, table_of};
+use crate::turns::turn_often;
 use crate::walk::moment_in;
 use crate::zone_fault::ZoneFault;
 use crate::zone_observances::ZoneObservances;
@@ -47,6 +48,9 @@ const SHORT: i64 = 86_399;
 
 /// How many seconds after an instant the end of a span is searched for.
 const AHEAD: i64 = 400 * DAY;
+
+/// How many it is for a stretch in a zone that may turn often: it takes long there.
+const SOON_AHEAD: i64 = HOUR;
 
 /// How many seconds after an instant spans are held.
 const HELD_AHEAD: i64 = 120 * DAY;
@@ -178,6 +182,8 @@ pub struct Observed {
     ago: i64,
     /// The place of an observance whose rule has locals on most days.
     often: usize,
+    /// Whether an observance may begin more than a few times a year by its rule.
+    turns: bool,
     /// How many spans are made for one instant.
     at_once: usize,
     /// How many onsets may still be listed.
@@ -241,6 +247,7 @@ impl Observed {
         };
         let ago = least_ago(&onsets);
         let often = first_often(&onsets);
+        let turns = turn_often(&observances);
         let at_once = spans_at_once(observances.len(), offsets.len());
         let room = onsets_listed(observances.len());
         let through = onsets_through(observances.len());
@@ -251,6 +258,7 @@ impl Observed {
             onsets,
             ago,
             often,
+            turns,
             at_once,
             room,
             asked: Vec::new(alloc),
@@ -274,6 +282,11 @@ impl Observed {
     /// Whether it has so many observances that its onsets are listed.
     pub fn has_many(&self) -> bool {
         self.onsets.len() > FEW
+    }
+
+    /// Whether an observance may begin more than a few times a year by its rule, so that a stretch may take long to find.
+    pub fn turns_often(&self) -> bool {
+        self.turns
     }
 
     /// Whether it holds no spans about a local, given by its seconds.
@@ -752,7 +765,10 @@ impl Observed {
     {
         match self.held_over(at, at) {
             Some(held) => held,
-            None => self.steady_about(at),
+            None => {
+                let ahead = if self.turns { SOON_AHEAD } else { AHEAD };
+                self.steady_about(at, ahead)
+            }
         }
     }
 
@@ -868,7 +884,7 @@ impl Observed {
     {
         let mut spans = Vec::new(*self.held.allocator());
         if begin > near {
-            let first = self.steady_about(near);
+            let first = self.steady_about(near, AHEAD);
             spans.push(clipped(first, near, last + 1)).ok()?;
         }
         Some(spans)
@@ -1098,7 +1114,7 @@ impl Observed {
         if self.held.len() >= HELD.max(self.at_once) {
             return;
         }
-        let steady = self.steady_about(near);
+        let steady = self.steady_about(near, AHEAD);
         self.hold_span(steady);
         self.sort_held();
     }
@@ -1217,12 +1233,14 @@ impl Observed {
     }
 
     /// The span about an instant, from one onset to the next that begins another offset and is not overridden at its own instant by one that begins
-    /// the same. Before all onsets it has no beginning.
-    fn steady_about(&self, near: Moment) -> Steady
-        requires { IsSearched near }
+    /// the same, but no more than so many seconds on. Before all onsets it has no beginning.
+    fn steady_about(&self, near: Moment, ahead: i64) -> Steady
+        requires near { IsSearched near }
+        requires some { pos 1 ≤ℤ ahead }
+        requires most { ahead ≤ℤ pos 34_560_000 }
         ensures { IsSteady (zone_offset self.now.said.items) result.from result.next result.offset }
     {
-        let last = near + AHEAD;
+        let last = near + ahead;
         match self.latest_about(near) {
             Some(latest) => Steady {
                 from: latest.at,

@@ -100,7 +100,7 @@ fn spacing(observance: &Observance) -> u64 {
 }
 
 /// How many positions a rule lists in BYSETPOS.
-fn positions_of(parts: &Parts) -> u64 {
+pub(crate) fn positions_of(parts: &Parts) -> u64 {
     if parts.positions.is_empty() {
         return 0;
     }

@@ -125,6 +125,14 @@ impl Zone {
         }
     }
 
+    /// Whether its observances may begin so often that a stretch takes long to find.
+    pub fn turns_often(&self) -> bool {
+        match &self.kind {
+            ZoneKind::ByObservances(observed) => observed.get().turns_often(),
+            ZoneKind::ByJiff(_) => false,
+        }
+    }
+
     /// Takes note of a local that will be asked for. No answer changes.
     pub fn note(&mut self, local: Local)
         ensures { self.new ≡ self.old }
