@@ -1,11 +1,12 @@
 -- Where the search of a rule begins.
-use Rattle.std.proofs.Common.{◌≡◌, ◌∙◌, ◌+ℤ◌, ◌-ℤ◌, ◌≤ℤ◌, ◌<ℤ◌, ℤ, pos, refl, arith}
+use Rattle.std.proofs.Common.{◌≡◌, ◌∙◌, ℕ, ◌+ℤ◌, ◌-ℤ◌, ◌≤ℤ◌, ◌<ℤ◌, ℤ, pos, refl, arith, to_z, of_z, w64}
 use Rattle.std.proofs.Common.{true, Option, None, Some, MatchOption}
 use Rattle.std.specs.Prelude.{is_none}
 use Rattle.std.specs.Int.{int_min}
-use Rattle.std.proofs.lemmas.Int.{ints}
+use Rattle.std.proofs.lemmas.Int.{int_min_is, ints}
 use Rattle.ics_event.specs.declared.event.Event.{Event}
-use Rattle.ics_fields.specs.Locals.{local_seconds, midnight, whole_days}
+use Rattle.ics_fields.specs.Days.{IsDayNumber}
+use Rattle.ics_fields.specs.Locals.{local_seconds, midnight, number, whole_days, year_number}
 use Rattle.ics_fields.specs.RuleParts.{RuleParts}
 use Rattle.ics_fields.specs.declared.local.Local.{Local}
 use Rattle.ics_starts.specs.declared.rule_starts.RuleStarts.{RuleStarts}
@@ -51,6 +52,21 @@ own-begin zones event w first from s begin is =
       late = rw is.3 begin.late;
       low = rw is.3 (λ n on before. less-by (begin.low n on before) ends.0);
     }
+
+lesser-day : (a b : ℤ) → IsDayNumber a → IsDayNumber b → IsDayNumber (int_min a b)
+lesser-day a b h k = (omega (arith, ints, h.0, k.0, int_min_is a b), omega (arith, ints, h.1, k.1, int_min_is a b))
+
+-- The midnight from which on is read, in an i64: that of the day where the search begins or, if that is earlier, of the end.
+module _ {day end seconds : ℤ} (from : Local) (h : IsDayNumber from.day) (k : IsDayNumber end) (is : day ≡ int_min from.day end)
+    (e : seconds ≡ midnight day) where
+  midnight-back : to_z w64 (of_z w64 seconds) ≡ midnight day
+  midnight-back = let own = lesser-day from.day end h k in omega (arith, ints, own.0, own.1, is, e)
+
+  pub begun-on : midnight day ≤ℤ to_z w64 (of_z w64 seconds)
+  begun-on = omega (arith, ints, midnight-back)
+
+  pub begun-next : {place : ℕ} → place ≡ number from → (to_z w64 (of_z w64 seconds) +ℤ pos (year_number 1_970)) ≤ℤ pos place
+  begun-next same = omega (arith, ints, h.0, h.1, int_min_is from.day end, is, midnight-back, same)
 
 no-rule : (o : Option RuleParts) → is_none o ≡ true → o ≡ None
 no-rule None e = refl

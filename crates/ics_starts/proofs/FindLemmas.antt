@@ -1,13 +1,15 @@
 -- What searches of a rule find, put together.
 use Rattle.std.proofs.Common.{◌≡◌, ℕ, zero, suc, ◌<◌, ◌≤◌, List, ◌∷◌, [], ◌++◌, take, Option, Some, None, MatchOption}
-use Rattle.std.proofs.Common.{is_some, true, false, slice_get, arith, subst, ⊎_elim}
+use Rattle.std.proofs.Common.{is_some, true, false, slice_get, arith, refl, subst, ⊎_elim}
 use Rattle.std.proofs.lemmas.Bool.{cases_lt}
 use Rattle.std.proofs.lemmas.List.Elements.{All-from_recursion, All-take, recursion_from_All}
 use Rattle.ics_fields.specs.Locals.{number}
 use Rattle.ics_fields.specs.declared.local.Local.{Local}
 use Rattle.ics_period.specs.Recurrence.{Recurrence}
+use Rattle.ics_rule.specs.Cursors.{place_of, HasLooked, IsCursorOf}
 use Rattle.ics_rule.specs.Next.{NoneKept}
-use Rattle.ics_starts.specs.Inner.Finds.{IsFound}
+use Rattle.ics_rule.specs.declared.cursor.Cursor.{Cursor}
+use Rattle.ics_starts.specs.Inner.Finds.{IsFound, IsStep}
 use Rattle.ics_starts.specs.Inner.KeptFinds.{AreFinds, IsFind}
 use Rattle.ics_starts.specs.declared.kept_locals.Find.{Find}
 use Rattle.ics_listing.proofs.LeadLemmas.{all-pushed}
@@ -63,6 +65,17 @@ module _ (rule : Recurrence) where
 
   pub found-placed : {from to a b : ℕ} (answer : Option Local) → from ≡ a → to ≡ b → IsFound rule a b answer → IsFound rule from to answer
   found-placed answer e f h = rw (e, f) h
+
+  -- a step is one still once its cursor has learnt more
+  pub step-on : {bound : ℕ} {before now more : Cursor} (answer : Option Local) → place_of more ≡ place_of now → IsCursorOf rule more
+      → ((a b : ℕ) → HasLooked rule now a b → HasLooked rule more a b) → IsStep rule bound answer before now → IsStep rule bound answer before more
+  step-on answer same own looked step = record {
+    found = found-placed answer refl same step.found;
+    later = omega (arith, same, step.later);
+    within = omega (arith, same, step.within);
+    own = own;
+    looked = λ from b l h. looked _ b (step.looked from b (omega (arith, same, l)) h);
+  }
 
   -- what is found at a place of a list is so
   pub find-in : (finds : List Find) (at : ℕ) (find : Find) → AreFinds rule finds → slice_get finds at ≡ Some find → IsFind rule find

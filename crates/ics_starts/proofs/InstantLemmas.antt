@@ -22,7 +22,7 @@ use Rattle.ics_zone.specs.Inner.ZoneBounds.{said_moment_near, said_offset_near}
 use Rattle.ics_zone.specs.declared.display.Display.{Display}
 use Rattle.ics_starts.specs.declared.zones.FileZones.{FileZones}
 use Rattle.ics_listing.specs.FileClocks.{Clock, Clocks, day_of}
-use Rattle.ics_starts.specs.Clocks.{clock_at, clock_by, display_clock, instant, utc_clock, zone_clock, local_at, IsBounded}
+use Rattle.ics_starts.specs.Clocks.{clock_at, clock_by, clock_of, display_clock, instant, utc_clock, zone_clock, local_at, IsBounded}
 use Rattle.ics_zone.specs.declared.bounds.Bounds.{Bounds}
 use Rattle.ics_fields.specs.Locals.{local_seconds, whole_days, midnight}
 use Rattle.ics_starts.specs.Finish.{end_by, seconds_by, days_lasting, later_by, seconds_lasting}
@@ -95,6 +95,12 @@ pub until : (clocks : Clocks) (first given end : Time) (s : Stamp) → ((day : �
     → instant clocks given +ℤ (instant clocks end -ℤ instant clocks first) ≡ end_by clocks first given s (Until end)
 until clocks first given end (Date day) h = absurd (h day refl)
 until clocks first given end _ h = refl
+
+-- a DURATION is later by the clock of the start
+pub lasting : (clocks : Clocks) (first given : Time) (duration : Duration) (s : Stamp) → ((day : ℤ) → s ≡ Date day → ⊥)
+    → end_by clocks first given s (Lasting duration) ≡ later_by (clock_of clocks given) duration (instant clocks given)
+lasting clocks first given duration (Date day) h = absurd (h day refl)
+lasting clocks first given duration _ h = refl
 
 pub until-seconds : (clocks : Clocks) (first end : Time) (s : Stamp) → ((day : ℤ) → s ≡ Date day → ⊥)
     → int_max (instant clocks end -ℤ instant clocks first) (pos 0) ≡ seconds_by clocks first s (Until end)

@@ -5,22 +5,30 @@ use Rattle.std.proofs.lemmas.Int.{int_min_is, ints}
 use Rattle.ics_fields.specs.Locals.{whole_days}
 use Rattle.ics_listing.specs.FileClocks.{Clock}
 use Rattle.ics_starts.specs.Clocks.{local_at, IsStretched}
-use Rattle.ics_starts.specs.Finish.{IsOver}
+use Rattle.ics_starts.specs.Finish.{later_by, IsOver}
 use Rattle.ics_values.specs.declared.duration.Duration.{Duration}
 use Rattle.ics_zone.specs.declared.stretch.Stretch.{Stretch}
 
 -- Where one stretch tells of an instant, and another of the local that the clock shows once the days of a duration have passed, the end is known.
-over-at : (clock : Clock) (shown ends : Stretch) → IsStretched clock shown → IsStretched clock ends → (duration : Duration) (by t : ℤ)
+pub later-at : (clock : Clock) (shown ends : Stretch) → IsStretched clock shown → IsStretched clock ends → (duration : Duration) (t : ℤ)
     → shown.from ≤ℤ (t +ℤ shown.offset) → (t +ℤ shown.offset) <ℤ shown.to → ends.from ≤ℤ (t +ℤ (shown.shown +ℤ whole_days duration.days))
-    → (t +ℤ (shown.shown +ℤ whole_days duration.days)) <ℤ ends.to → t <ℤ by
-    → ((t +ℤ (shown.shown +ℤ whole_days duration.days)) -ℤ ends.offset +ℤ pos duration.seconds) ≤ℤ by → IsOver clock duration by t
-over-at clock shown ends s e duration by t a b c d begun ended =
+    → (t +ℤ (shown.shown +ℤ whole_days duration.days)) <ℤ ends.to
+    → later_by clock duration t ≡ ((t +ℤ (shown.shown +ℤ whole_days duration.days)) -ℤ ends.offset) +ℤ pos duration.seconds
+later-at clock shown ends s e duration t a b c d =
     let local = t +ℤ (shown.shown +ℤ whole_days duration.days) in
     let at : t ≡ (t +ℤ shown.offset) -ℤ shown.offset = omega (arith, ints) in
     let offset : clock.offset t ≡ shown.shown = ap clock.offset at ∙ s.offsets (t +ℤ shown.offset) a b in
     let on : local_at clock t +ℤ whole_days duration.days ≡ local = omega (arith, ints, offset) in
     let moment = ap clock.moment on ∙ e.moments local c d in
-    record { begun = begun; ended = omega (arith, ints, moment, ended) }
+    omega (arith, ints, moment)
+
+-- So it is known whether it is past an instant.
+over-at : (clock : Clock) (shown ends : Stretch) → IsStretched clock shown → IsStretched clock ends → (duration : Duration) (by t : ℤ)
+    → shown.from ≤ℤ (t +ℤ shown.offset) → (t +ℤ shown.offset) <ℤ shown.to → ends.from ≤ℤ (t +ℤ (shown.shown +ℤ whole_days duration.days))
+    → (t +ℤ (shown.shown +ℤ whole_days duration.days)) <ℤ ends.to → t <ℤ by
+    → ((t +ℤ (shown.shown +ℤ whole_days duration.days)) -ℤ ends.offset +ℤ pos duration.seconds) ≤ℤ by → IsOver clock duration by t
+over-at clock shown ends s e duration by t a b c d begun ended =
+    record { begun = begun; ended = omega (arith, ints, later-at clock shown ends s e duration t a b c d, ended) }
 
 -- So it is of the instants from one on up to where these are told, and the ends are not past an instant.
 pub over-to : (clock : Clock) (shown ends : Stretch) → IsStretched clock shown → IsStretched clock ends → (duration : Duration) (by from t : ℤ)

@@ -19,7 +19,8 @@ use Rattle.ics_starts.specs.declared.zones.FileZones.{FileZones}
 use Rattle.ics_listing.specs.FileClocks.{Clocks}
 use Rattle.ics_starts.specs.Clocks.{instant}
 use Rattle.ics_listing.specs.Entry.{Entry}
-use Rattle.ics_starts.specs.Finish.{seconds_lasting}
+use Rattle.ics_starts.specs.Finish.{finish, seconds_lasting}
+use Rattle.ics_listing.specs.WindowBounds.{lasts_most, window_last}
 use Rattle.ics_listing.specs.Listing.{IsIn}
 use Rattle.ics_listing.specs.Rising.{Rises}
 use Rattle.ics_listing.specs.WindowMeeting.{is_met}
@@ -50,6 +51,11 @@ pub record IsStartIn (zones : FileZones) (s : Start) : Type 0 where
   pub value : IsRdate s.given
   pub below : RdateBelow (length zones.zones.now) s.given
   pub moment : s.moment ≡ instant (clocks_in zones) (time_of s.given)
+
+-- the finish of the event's occurrence with a start
+pub record IsFinish (clocks : Clocks) (event : Event) (s : Start) (t : ℤ) : Type 0 where
+  pub value : t ≡ finish clocks event s.given
+  pub early : t <ℤ (window_last +ℤ lasts_most)
 
 -- An occurrence from this instant meets the window, by the length of one of the sources of this start, whether it is the first or not.
 pub record IsSought (clocks : Clocks) (event : Event) (w : Window) (t : ℤ) : Type 0 where

@@ -38,7 +38,7 @@ pub(crate) struct ClockStretches {
 }
 
 /// Whether two times are read by one clock, which is not that of UTC.
-fn have_one_clock(a: Time, b: Time) -> bool
+pub(crate) fn have_one_clock(a: Time, b: Time) -> bool
     ensures { result ≡ true → (clocks : Clocks) → clock_of clocks a ≡ clock_of clocks b }
 {
     match (a.stamp, b.stamp) {

@@ -31,14 +31,14 @@ const FIRST: Moment = -62_167_219_200;
 #[derive(Drop)]
 pub(crate) struct Ends {
     /// Spans of that clock near them.
-    spans: Option<Spans>,
+    pub spans: Option<Spans>,
     /// The clock is not asked for a local before this one: shortly before it told no stretch, or nothing had ended.
     asks: Moment,
     ghost late: { year_seconds 0 ≤ℤ asks },
 }
 
 /// The seconds from an instant to the local that a clock shows some days later, if it has an offset at the instant.
-fn seconds_on(offset: i64, days: u64) -> i64
+pub(crate) fn seconds_on(offset: i64, days: u64) -> i64
     requires offset { IsWithin 93_599 offset }
     requires days { whole_days days ≤ℤ pos longest }
     ensures { result ≡ offset +ℤ whole_days days }

@@ -14,6 +14,9 @@ use ics_listing::{Window, local_of};
 use ics_values::{Local, Moment, Stamp};
 use ics_zone::{Bounds, Place, Spans, Stretch};
 
+/// Spans that are made for fewer seconds on tell of very many onsets, and take longer than the questions that they save.
+pub(crate) const DAYS: i64 = 7 * 86_400;
+
 /// A stretch that reaches so many seconds past a local is far.
 const FAR: i64 = 3_600;
 
@@ -67,8 +70,18 @@ pub(crate) fn stretch(zones: FileZones<'_>, time: Time, local: Moment) -> Stretc
     }
 }
 
+/// Whether the clock of a time is that of a zone of the file that may change it many times a year.
+pub(crate) fn turns_often(zones: FileZones<'_>, time: Time) -> bool
+    requires { IsTimeOf zones.zones.now time }
+{
+    match time.stamp {
+        Stamp::Zoned(_) => zones.zone_of(time).turns_often(),
+        _ => false,
+    }
+}
+
 /// The spans of the clock of a time about a local, given by its seconds, and some days on. There are none for a date and in UTC.
-fn spans_at(zones: FileZones<'_>, time: Time, local: Moment) -> Option<Spans>
+pub(crate) fn spans_at(zones: FileZones<'_>, time: Time, local: Moment) -> Option<Spans>
     requires time { IsTimeOf zones.zones.now time }
     requires local { IsMoment local }
     ensures { AreSpansOf (clock_of (clocks_in zones.entry) time) result }
@@ -80,8 +93,16 @@ fn spans_at(zones: FileZones<'_>, time: Time, local: Moment) -> Option<Spans>
     }
 }
 
+/// Whether spans that are kept were made for a local, given by its seconds.
+pub(crate) fn are_made_for(spans: &Option<Spans>, local: Moment) -> bool {
+    match spans {
+        None => false,
+        Some(spans) => spans.are_near(local),
+    }
+}
+
 /// A stretch about a local, given by its seconds, by spans that are kept. None if they were not made for it.
-fn told_by(spans: &Option<Spans>, local: Moment) -> Option<Stretch>
+pub(crate) fn told_by(spans: &Option<Spans>, local: Moment) -> Option<Stretch>
     requires { IsMoment local }
     ensures { (clock : Clock) → AreSpansOf clock spans.now → IfSome result (IsStretched clock) }
 {

@@ -8,13 +8,15 @@ ghost use Rattle.ics_period.specs.Recurrence.{Recurrence};
 ghost use Rattle.ics_rule.specs.Calls.{IsAnswer};
 ghost use Rattle.ics_rule.specs.Cursors.{known_to, place_of, HasLooked, IsCursorOf};
 ghost use Rattle.ics_rule.specs.Next.{NoneKept};
-ghost use Rattle.ics_starts.specs.Inner.Finds.{IsCounting, IsNextLocal, IsStep, LooksOn};
+ghost use Rattle.ics_starts.specs.Inner.Finds.{IsCounting, IsFound, IsNextLocal, IsStep, LooksOn};
 ghost use Rattle.ics_starts.specs.Inner.KeptFinds.{counting-prop, finds-prop, AreFinds, HasCounting, IsFind};
+ghost use Rattle.ics_starts.specs.RuleMarks.{IsCountMark};
 ghost use Rattle.ics_starts.specs.RuleStartLaws.{cursor-prop, rule-prop};
 ghost use Rattle.ics_starts.specs.Starts.{recurrence_of};
 
 use crate::kind::kind_of;
 use crate::lasting::day_of;
+use crate::mark::Mark;
 use crate::placed_cursor::PlacedCursor;
 use crate::shared_rule::SharedRule;
 use ics_event::{Event, Length, Rdate, Time};
@@ -31,6 +33,9 @@ const RULES_END: u64 = 309_289_708_800;
 
 /// A look at a year is dear beside so few times of a day.
 const FEW: u64 = 24;
+
+/// After each so many seconds in vain, a rule is asked how long it keeps no local: 32 days.
+const IN_VAIN: u64 = 2_764_800;
 
 /// At most so many finds are kept.
 const MOST: usize = 1_024;
@@ -67,6 +72,10 @@ pub struct KeptLocals<'a> {
     learns: bool,
     /// The cursor that went furthest so.
     last: Cursor,
+    /// From where on the searches up to the next have found nothing, or since the rule was asked how long it keeps no local.
+    vain_from: u64,
+    /// The end of the last search that has found nothing.
+    vain_to: u64,
     ghost of: { recurrence_of event.now ≡ Some rule } by { rule-prop (recurrence_of event.now) (Some rule) },
     ghost known_are: { AreFinds rule known.items } by { finds-prop rule known.items },
     ghost found_are: { AreFinds rule found.items } by { finds-prop rule found.items },
@@ -100,7 +109,7 @@ fn is_long_from(start: Time, length: Length) -> bool {
 }
 
 /// How many times of a day a rule names, and one for each part that it does not name.
-fn times_of_day(parts: &Parts) -> u64 {
+pub(crate) fn times_of_day(parts: &Parts) -> u64 {
     let hours = members_below(&parts.hours, 24).max(1);
     let minutes = members_below(&parts.minutes, 60).max(1);
     let seconds = members_below(&parts.seconds, 60).max(1);
@@ -232,6 +241,8 @@ impl<'a> KeptLocals<'a> {
                 counting,
                 learns: dear && parts.count.is_none(),
                 last,
+                vain_from: 0,
+                vain_to: 0,
             },
         )
         .ok()
@@ -331,6 +342,46 @@ impl<'a> KeptLocals<'a> {
         find.local
     }
 
+    /// The end of what a search from a local on has found, by the cursor that made it: the cursor's place. After each 32 days in vain it is the end of what
+    /// is quiet from there on.
+    fn found_to(&mut self, cursor: &mut PlacedCursor, from: u64, local: Option<Local>) -> u64
+        requires own { IsCursorOf self.old.rule cursor.old.cursor }
+        requires found { IsFound self.old.rule from cursor.old.place local }
+        ensures rule { self.new.rule ≡ self.old.rule }
+        ensures event { self.new.event ≡ self.old.event }
+        ensures found { IsFound self.old.rule from result local }
+        ensures place { cursor.new.place ≡ cursor.old.place }
+        ensures own { IsCursorOf self.old.rule cursor.new.cursor }
+        ensures looked { (a b : ℕ) → HasLooked self.old.rule cursor.old.cursor a b → HasLooked self.old.rule cursor.new.cursor a b }
+    {
+        let place = cursor.place;
+        if local.is_some() {
+            return place;
+        }
+        if from != self.vain_to {
+            self.vain_from = from;
+        }
+        self.vain_to = place;
+        if place.saturating_sub(self.vain_from) < IN_VAIN {
+            return place;
+        }
+        self.vain_from = place;
+        cursor.cursor.quiet(self.rule.get()).number().max(place)
+    }
+
+    /// A cursor holds the year that was looked at last, if it is that of its place.
+    fn hold_last(&self, cursor: &mut PlacedCursor)
+        requires own { IsCursorOf self.now.rule cursor.old.cursor }
+        ensures place { cursor.new.place ≡ cursor.old.place }
+        ensures own { IsCursorOf self.now.rule cursor.new.cursor }
+        ensures looked { (a b : ℕ) → cursor.old.place < b → HasLooked self.now.rule cursor.old.cursor a b
+            → HasLooked self.now.rule cursor.new.cursor a b }
+    {
+        if self.learns {
+            cursor.hold(self.rule.get(), &self.last);
+        }
+    }
+
     /// Searches for the next local that the rule keeps, from a cursor's place on and before another, which is later.
     fn search(&mut self, cursor: &mut PlacedCursor, end: u64) -> Option<Local>
         requires early { end ≤ rules_end }
@@ -346,12 +397,10 @@ impl<'a> KeptLocals<'a> {
                 return self.count(cursor, counting, end);
             }
         }
+        self.hold_last(cursor);
         let local = cursor.next(self.rule.get(), end);
-        let find = Find {
-            from,
-            to: cursor.place,
-            local,
-        };
+        let to = self.found_to(cursor, from, local);
+        let find = Find { from, to, local };
         note(&mut self.found, find);
         local
     }
@@ -374,13 +423,10 @@ impl<'a> KeptLocals<'a> {
         let from = cursor.place;
         counting.pass(self.rule.get(), from);
         let local = counting.next(self.rule.get(), end);
+        let to = self.found_to(&mut counting, from, local);
         *cursor = counting;
         self.counting = Some(counting);
-        let find = Find {
-            from,
-            to: counting.place,
-            local,
-        };
+        let find = Find { from, to, local };
         note(&mut self.found, find);
         local
     }
@@ -471,6 +517,30 @@ pub(crate) fn is_searched(kept: &Option<Box<KeptLocals<'_>>>) -> bool {
         None => false,
         Some(kept) => !kept.keeps,
     }
+}
+
+/// A mark at a midnight, of the cursor that went furthest under COUNT, if searches go on from that and it is not past the midnight. What it has passed is
+/// not counted again. None if there is no mark yet.
+pub(crate) fn furthest(
+    kept: &Option<Box<KeptLocals<'_>>>,
+    rule: &Rule,
+    from: Local,
+    mark: Option<&Mark>,
+) -> Option<Mark>
+    requires kept { MatchOption kept.now (Unit {0}) (λ k. k.value.rule ≡ rule.now) }
+    requires from { IsDayNumber from.day }
+    requires mark { MatchOption mark (Unit {0}) (λ m. IsCountMark rule.now m.now) }
+    ensures { MatchOption result (Unit {0}) (IsCountMark rule.now) }
+{
+    let _counted = mark?;
+    let kept = kept.as_ref()?;
+    let counting = kept.counting.as_ref()?;
+    if !kept.keeps || from.second != 0 || from.number() < counting.place {
+        return None;
+    }
+    let mut cursor = counting.cursor;
+    cursor.pass(rule, from);
+    Some(Mark { from, cursor })
 }
 
 /// Ends a search of a rule, of which something is kept.

@@ -22,6 +22,7 @@ mod shared_rule;
 mod single;
 mod single_events;
 mod starts;
+mod told_ends;
 mod zones;
 
 pub use instants::instant;

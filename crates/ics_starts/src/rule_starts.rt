@@ -25,12 +25,16 @@ ghost use Rattle.ics_listing.specs.Waiting.{starts_in, waiting_in};
 ghost use Rattle.ics_period.specs.PeriodNumbers.{rules_end};
 
 use crate::exclusion::Exclusions;
-use crate::instants::{bounds, instant_in, is_in, no_stretch, stretch, stretch_by};
-use crate::kept_locals::{KeptLocals, end, is_searched, known_next, leave, next, quiet};
+use crate::instants::{
+    DAYS, are_made_for, bounds, instant_in, is_in, no_stretch, stretch, stretch_by, told_by,
+    turns_often,
+};
+use crate::kept_locals::{KeptLocals, end, furthest, is_searched, known_next, leave, next, quiet};
 use crate::listed::lesser_past;
 use crate::mark::{Mark, begin, is_counted};
 use crate::shared_rule::SharedRule;
 use crate::starts::{end_nearby, is_until};
+use crate::told_ends::are_told;
 use crate::zones::FileZones;
 use ics_event::{Event, Time};
 use ics_fields::Frequency;
@@ -39,12 +43,22 @@ use ics_rule::{Cursor, Rule};
 use ics_values::{Local, Moment, Stamp, is_zoned};
 use ics_zone::{Bounds, Spans, Stretch};
 use std::alloc::{AllocError, Global};
+use std::mem;
 
 /// Kept locals that are nearer to one another than these seconds are worth a stretch.
-const CLOSE: i64 = 3_600;
+const CLOSE: u16 = 3_600;
+
+/// So are those of an event whose ends are told by stretches.
+const NEAR: u16 = 4 * 3_600;
 
 /// Spans that are made for fewer locals take longer than the questions that they save.
 const MANY: i64 = 512;
+
+/// For fewer than these they do also where the clock itself tells no stretch.
+const SOME: i64 = 64;
+
+/// Spans that saved fewer questions took longer too.
+const TOLD: u16 = 32;
 
 /// How many seconds pass before spans are made again then.
 const LATER: i64 = 128 * 86_400;
@@ -94,6 +108,10 @@ pub(crate) struct RuleStarts<'a> {
     stretch: Stretch,
     /// Spans of that clock near the locals that are read, if it told no stretch that is far.
     spans: Option<Spans>,
+    /// How many questions these have saved or, where there are none, those of the search before.
+    told: u16,
+    /// Locals that are nearer to one another than these seconds are close.
+    close: u16,
     held: Queue,
     /// None of the locals read so far that are at the window's end or later is before this instant.
     beyond: Moment,
@@ -230,12 +248,9 @@ fn shown_from(stretch: Stretch, next: Moment, moment: Moment) -> Moment
     stretch.to
 }
 
-/// Whether spans that are kept were made for a local, given by its seconds.
-fn are_made_for(spans: &Option<Spans>, local: Moment) -> bool {
-    match spans {
-        None => false,
-        Some(spans) => spans.are_near(local),
-    }
+/// The seconds from which on kept locals of an event are worth no stretch, if they are so far apart.
+fn close_of(event: &Event) -> u16 {
+    if are_told(event) { NEAR } else { CLOSE }
 }
 
 /// The local, in seconds, from which on a search that begins at one asks for stretches: one that began no later may have found that spans save few
@@ -245,37 +260,82 @@ fn asks_from(known: Stretch, before: Local, from: Local, next: Moment) -> Moment
     if may_know { next.max(known.to) } else { next }
 }
 
-/// A stretch by which a local, given by its seconds, is read: the known one or, if the clock is asked, another. Where new spans are made for few locals
-/// so many seconds apart, none are made for some time.
-fn stretch_at(
+/// Whether new spans, which were made for a local, given by its seconds, save few questions. They save many if they were made for many later ones, so many
+/// seconds apart, or for some and for days where the clock itself tells no stretch and those before them told some.
+fn are_few(
     zones: FileZones<'_>,
     time: Time,
-    known: Stretch,
-    spans: &mut Option<Spans>,
+    spans: &Option<Spans>,
+    told: u16,
     local: Moment,
     step: Moment,
-    asks: bool,
+) -> bool
+    requires time { IsTimeOf zones.zones.now time }
+    requires local { IsMoment local }
+{
+    if are_made_for(spans, local.saturating_add(step.saturating_mul(MANY))) {
+        return false;
+    }
+    let near = local.saturating_add(step.saturating_mul(SOME).max(DAYS));
+    told < TOLD || !are_made_for(spans, near) || is_in(stretch(zones, time, local), local)
+}
+
+/// A stretch for which the clock is asked, about a local, given by its seconds. Where new spans are made for few locals so many seconds apart, none are
+/// made for some time.
+#[inline(never)]
+fn asked_at(
+    zones: FileZones<'_>,
+    time: Time,
+    spans: &mut Option<Spans>,
+    told: &mut u16,
+    local: Moment,
+    step: Moment,
 ) -> Stretch
     requires time { IsTimeOf zones.zones.now time }
     requires local { IsMoment local }
-    requires known { IsStretched (clock_of (clocks_in zones) time) known }
     requires spans { AreSpansOf (clock_of (clocks_in zones) time) spans.old }
     ensures spans { AreSpansOf (clock_of (clocks_in zones.entry) time) spans.new }
     ensures stretch { IsStretched (clock_of (clocks_in zones.entry) time) result }
 {
-    if !asks {
-        return known;
-    }
     let are_known = are_made_for(spans, local);
     let stretch = stretch_by(zones, time, spans, local);
-    let far = local.saturating_add(step.saturating_mul(MANY));
-    if !are_known && are_made_for(spans, local) && !are_made_for(spans, far) {
-        return no_stretch(local + LATER);
+    if are_known {
+        *told = told.saturating_add(1);
+    } else if are_made_for(spans, local) {
+        let before = mem::replace(told, 0);
+        if are_few(zones, time, spans, before, local, step) {
+            *told = TOLD;
+            return no_stretch(local + LATER);
+        }
     }
     if is_in(stretch, local) {
         stretch
     } else {
         no_stretch(local + MINUTE)
+    }
+}
+
+/// Keeps the stretch by which a local, given by its seconds, is read: the known one or, if the clock is asked, another.
+#[inline(always)]
+fn keep_stretch(
+    zones: FileZones<'_>,
+    time: Time,
+    stretch: &mut Stretch,
+    spans: &mut Option<Spans>,
+    told: &mut u16,
+    local: Moment,
+    step: Moment,
+    asks: bool,
+)
+    requires time { IsTimeOf zones.zones.now time }
+    requires local { IsMoment local }
+    requires known { IsStretched (clock_of (clocks_in zones) time) stretch.old }
+    requires spans { AreSpansOf (clock_of (clocks_in zones) time) spans.old }
+    ensures spans { AreSpansOf (clock_of (clocks_in zones.entry) time) spans.new }
+    ensures stretch { IsStretched (clock_of (clocks_in zones.entry) time) stretch.new }
+{
+    if asks {
+        *stretch = asked_at(zones, time, spans, told, local, step);
     }
 }
 
@@ -346,6 +406,8 @@ impl<'a> RuleStarts<'a> {
             next,
             stretch: no_stretch(next),
             spans: None,
+            told: TOLD,
+            close: close_of(event),
             held: Queue::new(alloc),
             beyond: Moment::MAX,
         }
@@ -379,7 +441,9 @@ impl<'a> RuleStarts<'a> {
         let next = Local::at(day, 0).seconds();
         let place = from.number();
         let asks = asks_from(self.stretch, self.from, from, next);
-        begin(&mut self.cursor, self.rule.get(), from, end, mark);
+        let rule = self.rule.get();
+        let counted = furthest(&self.kept, rule, from, mark);
+        begin(&mut self.cursor, rule, from, end, counted.as_ref().or(mark));
         self.zones = zones;
         self.event = event;
         self.window = window;
@@ -458,7 +522,7 @@ impl<'a> RuleStarts<'a> {
     fn asks_at(&self, local: Moment) -> bool {
         let midnight = (i64::from(self.day) + 1) * DAY;
         let is_read = self.day < self.asked && local < midnight;
-        is_read && local < self.next + CLOSE && self.stretch.to <= local
+        is_read && local < self.next + i64::from(self.close) && self.stretch.to <= local
     }
 
     /// Reads up to the next kept local but, if a start is held, not past the end of the day.
@@ -487,11 +551,12 @@ impl<'a> RuleStarts<'a> {
                 let seconds = local.seconds();
                 let event = self.event;
                 let asks = self.asks_at(seconds);
-                self.stretch = stretch_at(
+                keep_stretch(
                     self.zones,
                     event.start,
-                    self.stretch,
+                    &mut self.stretch,
                     &mut self.spans,
+                    &mut self.told,
                     seconds,
                     seconds.saturating_sub(self.next).saturating_add(1),
                     asks,
@@ -670,11 +735,12 @@ impl<'a> RuleStarts<'a> {
     {
         let event = self.event;
         let asks = self.stretch.to <= local;
-        self.stretch = stretch_at(
+        keep_stretch(
             self.zones,
             event.start,
-            self.stretch,
+            &mut self.stretch,
             &mut self.spans,
+            &mut self.told,
             local,
             0,
             asks,
@@ -787,6 +853,20 @@ impl<'a> RuleStarts<'a> {
         self.next - self.stretch.offset
     }
 
+    /// A stretch about a local, given by its seconds, as far as one is known. It may be empty.
+    pub(crate) fn shown_at(&self, local: Moment) -> Stretch
+        requires { IsMoment local }
+        ensures { IsStretched (clock_of (clocks_in self.now.zones) self.now.event.now.start) result }
+    {
+        if is_in(self.stretch, local) {
+            return self.stretch;
+        }
+        match told_by(&self.spans, local) {
+            None => no_stretch(local),
+            Some(told) => told,
+        }
+    }
+
     /// The stretch of locals that is known.
     pub(crate) fn known_stretch(&self) -> Stretch
         ensures { result ≡ self.now.stretch }
@@ -888,7 +968,7 @@ impl<'a> RuleStarts<'a> {
 
     /// The stretch that is known or, where that does not hold a local, given by its seconds, the one about it that the clock tells. The clock
     /// is not asked where its offsets are no further apart than the local is from the beginning of its day: by each of them it is that day. Nor is a
-    /// zone of the file about a local that comes soon, since a stretch of one that changes its clock many times a day takes long.
+    /// zone of the file about a local that comes soon, and one that may change its clock many times a year about none: a stretch of it takes long.
     fn stretch_about(&self, local: Moment) -> Stretch
         requires { IsMoment local }
         ensures { IsStretched (clock_of (clocks_in self.now.zones) self.now.event.now.start) result }
@@ -899,6 +979,9 @@ impl<'a> RuleStarts<'a> {
         let is_soon = local <= self.window.to.saturating_add(SOON);
         let is_left = is_soon && is_zoned(event.start.stamp);
         if is_left || apart <= time || is_in(self.stretch, local) {
+            return self.stretch;
+        }
+        if turns_often(self.zones, event.start) {
             return self.stretch;
         }
         stretch(self.zones, event.start, local)

@@ -2,7 +2,7 @@
 ghost use Rattle.std.specs.Prelude.{◌≡◌, ◌<◌, ◌<ℤ◌, ◌≤ℤ◌, ◌-ℤ◌, ℤ, pos, false, slice_get, true, All, IfOk, IfSome, List, MatchOption, None, Some};
 ghost use Rattle.std.specs.List.Sorted.{IsSorted};
 ghost use Rattle.std.specs.Ordering.{int_cmp};
-ghost use Rattle.ics_event.specs.Event.{IsLasting};
+ghost use Rattle.ics_event.specs.Event.{IsLasting, IsRdate};
 ghost use Rattle.ics_fields.specs.Days.{IsDayNumber};
 ghost use Rattle.ics_fields.specs.Locals.{number, year_seconds};
 ghost use Rattle.ics_listing.specs.Entry.{entry_cmp};
@@ -14,7 +14,7 @@ ghost use Rattle.ics_starts.specs.Clocks.{clock_of, AreSpansOf, IsStretched};
 ghost use Rattle.ics_starts.specs.Inner.ByLocal.{dates-prop, HasDates};
 ghost use Rattle.ics_starts.specs.Inner.ClockStretches.{AreKnown};
 ghost use Rattle.ics_starts.specs.Finish.{AreLasting};
-ghost use Rattle.ics_starts.specs.Found.{counts_from, first_met, AreRunning, IsStartIn};
+ghost use Rattle.ics_starts.specs.Found.{counts_from, first_met, AreRunning, IsFinish, IsStartIn};
 ghost use Rattle.ics_listing.specs.FileClocks.{Clock};
 ghost use Rattle.ics_listing.specs.Listing.{IsIn};
 ghost use Rattle.ics_starts.specs.Inner.KeptLocals.{IsKeptOf};
@@ -48,8 +48,9 @@ use crate::replaced::Replaced;
 use crate::rule_starts::RuleStarts;
 use crate::shared_rule::SharedRule;
 use crate::starts::{earliest, first_given, first_met, first_nearby, seconds_back, start_at};
+use crate::told_ends::{ToldEnds, again};
 use crate::zones::FileZones;
-use ics_event::Event;
+use ics_event::{Event, Rdate};
 use ics_fields::Parts;
 use ics_listing::{Begins, Coming, Feed, ListedStarts, Occurrence, Start, Window, local_of};
 use ics_rule::Rule;
@@ -72,6 +73,8 @@ pub struct Series<'a> {
     // The starts by RDATEs and, if there is no rule, the one at DTSTART.
     listed: ListedStarts,
     ends: Ends,
+    // What tells the ends of occurrences by stretches, if they follow each other closely.
+    told_ends: Option<Box<ToldEnds>>,
     // What tells the EXDATEs and RDATEs near a window, once the series is begun again.
     dates: Option<Box<DatesByLocal>>,
     ghost first_is: { IfSome first (IsFirstGiven (clocks_in zones) window event.now since) } by { first-given-prop (clocks_in zones) window event.now since
@@ -392,6 +395,18 @@ fn known_stretch(rule: &Option<RuleStarts<'_>>) -> Stretch
     }
 }
 
+/// A stretch about the local at which a rule gives a start, as far as the rule knows one. It may be empty.
+fn shown_at(rule: &Option<RuleStarts<'_>>, start: Start) -> Stretch
+    requires { IsRdate start.given }
+    ensures { MatchOption rule.now ((clock : Clock) → IsStretched clock result)
+        (λ s. IsStretched (clock_of (clocks_in s.zones) s.event.now.start) result) }
+{
+    match (rule, start.given) {
+        (Some(starts), Rdate::At(time)) => starts.shown_at(local_of(time.stamp).seconds()),
+        _ => no_stretch(0),
+    }
+}
+
 /// The first start of two lists, of which these are the first. If both are at one instant, it is the one
 /// by the rule.
 fn earlier_of(ruled: Option<Start>, listed: Option<Start>) -> Option<Start>
@@ -501,6 +516,7 @@ impl<'a> Series<'a> {
             rule_starts,
             listed: ListedStarts::new(alloc, listed)?,
             ends: Ends::new(),
+            told_ends: ToldEnds::new(alloc, event),
             dates,
         })
     }
@@ -550,6 +566,7 @@ impl<'a> Series<'a> {
         self.exclusions = exclusions;
         self.listed = starts;
         self.ends = Ends::new();
+        again(&mut self.told_ends);
         Ok(())
     }
 
@@ -763,9 +780,48 @@ impl<'a> Series<'a> {
         }
     }
 
-    /// The occurrence with a start, if it belongs to the list.
-    fn wanted(&self, start: Start) -> Option<Occurrence<'a>>
-        requires { IsStartIn self.now.zones start }
+    /// The end of the occurrence with a start, if stretches tell it.
+    #[inline(always)]
+    fn told(&mut self, start: &Start) -> Option<Moment>
+        requires { IsStartIn self.old.zones start.now }
+        ensures told { IfSome result (IsFinish (clocks_in self.old.zones) self.old.event.now start.entry.now) }
+        ensures same { IsSameSeries self.old self.new }
+        ensures rule { self.new.rule_starts ≡ self.old.rule_starts }
+        ensures listed { self.new.listed ≡ self.old.listed }
+    {
+        if self.told_ends.is_some() {
+            return self.tell(start);
+        }
+        None
+    }
+
+    /// The same where they may tell it.
+    #[inline(never)]
+    fn tell(&mut self, start: &Start) -> Option<Moment>
+        requires { IsStartIn self.old.zones start.now }
+        ensures told { IfSome result (IsFinish (clocks_in self.old.zones) self.old.event.now start.entry.now) }
+        ensures same { IsSameSeries self.old self.new }
+        ensures rule { self.new.rule_starts ≡ self.old.rule_starts }
+        ensures listed { self.new.listed ≡ self.old.listed }
+    {
+        if start.moment < self.since || self.window.to <= start.moment {
+            return None;
+        }
+        let event = self.event;
+        let Some(told) = &mut self.told_ends else {
+            return None;
+        };
+        if !told.may_tell(start.moment) {
+            return None;
+        }
+        let shown = shown_at(&self.rule_starts, *start);
+        told.end(&mut self.ends.spans, self.zones, event, *start, shown)
+    }
+
+    /// The occurrence with a start, if it belongs to the list. Its end may have been told.
+    fn wanted(&self, start: Start, told: Option<Moment>) -> Option<Occurrence<'a>>
+        requires start { IsStartIn self.now.zones start }
+        requires told { IfSome told (IsFinish (clocks_in self.now.zones) self.now.event.now start) }
         ensures { option_map entry_of result ≡ wanted_by (clocks_in self.now.zones) self.now.window self.now.event.now self.now.since
             self.now.replaced start }
     {
@@ -776,7 +832,7 @@ impl<'a> Series<'a> {
             return None;
         }
         let (zones, event) = (self.zones, self.event);
-        let occurrence = met_by(zones, event, start, &self.window)?;
+        let occurrence = met_by(zones, event, start, &self.window, told)?;
         if self.is_removed(occurrence.start) {
             None
         } else {
@@ -862,7 +918,8 @@ impl<'a> Feed<'a> for Series<'a> {
 
     fn next(&mut self) -> Result<Option<Occurrence<'a>>, AllocError> {
         while let Some(start) = self.peek()? {
-            let wanted = self.wanted(start);
+            let told = self.told(&start);
+            let wanted = self.wanted(start, told);
             self.pass(&start);
             if let Some(occurrence) = wanted {
                 return Ok(Some(occurrence));

@@ -88,7 +88,7 @@ fn is_span_met(zones: FileZones<'_>, event: &Event, start: Start, window: &Windo
 {
     match start.given {
         Rdate::At(_) => false,
-        Rdate::Span(_, _) => met_by(zones, event, start, window).is_some(),
+        Rdate::Span(_, _) => met_by(zones, event, start, window, None).is_some(),
     }
 }
 

@@ -11,8 +11,8 @@ invariant_of-occurrence c =
     let from = late c.args.zones (time_of c.args.start.given) (rdate-time c.args.start.given c.requires.start.value) in
     record {
       not_early = omega (arith, ints, c.requires.start.moment, from);
-      forward = omega (arith, ints, c.finish.ensures.forward);
-      not_late = omega (arith, ints, c.finish.ensures.early);
+      forward = omega (arith, ints, c.finish_by.ensures.forward);
+      not_late = omega (arith, ints, c.finish_by.ensures.early);
     }
 
 pub returns-then-start-window : goal.returns-then-start-window

@@ -10,7 +10,7 @@ use Rattle.ics_listing.specs.StartOrder.{moment_cmp}
 use Rattle.ics_starts.specs.Leeway.{seconds_off}
 use Rattle.ics_listing.specs.Listing.{IsIn}
 use Rattle.ics_listing.specs.Rising.{Rises}
-use Rattle.ics_starts.proofs.BeginLemmas.{end-of-window, ends-same, first-same}
+use Rattle.ics_starts.proofs.BeginLemmas.{begun-next, begun-on, end-of-window, ends-same, first-same}
 use Rattle.ics_starts.proofs.RuleDayLemmas.{come-empty}
 use Rattle.ics_starts.specs.RuleStarts.{HasLookedTo}
 use Rattle.ics_listing.specs.Waiting.{start_of, starts_in}
@@ -59,7 +59,7 @@ invariant_of-self c =
     let w = c.args.window in
     let e = c.end_nearby-end.ensures in
     let until = rw c.get.ensures at c.until_moment-until.ensures in
-    let begun = rw c.get-2.ensures at c.begin.ensures.begun in
+    let begun = rw c.get-rule.ensures at c.begin.ensures.begun in
     let ends = ends-same w until c.event.view_is in
     let off = ap (λ (v : Event). seconds_off v.start.stamp) c.event.view_is in
     let most = end-of-window w c.until_moment-until.result c.end_nearby-end.result c.event.view_is e.soon in
@@ -92,13 +92,13 @@ invariant_of-self c =
       stretched = c.no_stretch-self.ensures _;
       spanned = ∣ tt ∣₁;
       own = begun.own;
-      looked = subst (λ d. HasLookedTo c.args.self.now.rule c.args.from d c.begin.new.cursor) (sym asked) (rw c.get-2.ensures at c.begin.ensures.looked);
+      looked = subst (λ d. HasLookedTo c.args.self.now.rule c.args.from d c.begin.new.cursor) (sym asked) (rw c.get-rule.ensures at c.begin.ensures.looked);
       placed = c.number-place.ensures.value ∙ sym place;
       known = subst (λ (e : Event). IsKeptOf e s.kept) c.requires.same s.known;
       reached = record {
         read = omega (arith, ints, place, day, end, from, min, int_min_is, day-from.0, day-from.1, e.day.0, e.day.1);
-        next_read = omega (arith, ints, place, day, end, from, min, int_min_is, day-from.0, day-from.1, e.day.0, e.day.1, next);
-        next_on = omega (arith, ints, next);
+        next_read = begun-next c.args.from day-from e.day (asked ∙ ap (int_min c.args.from.day) end) next place;
+        next_on = begun-on c.args.from day-from e.day (asked ∙ ap (int_min c.args.from.day) end) next;
         low = omega (arith, ints, day, end, from, min, int_min_is, c.requires.from.0, e.day.0);
         on = omega (arith, ints, day);
         soon = omega (arith, ints, day);
@@ -110,7 +110,7 @@ invariant_of-self c =
     }
 
 pub returns-clause-begun : goal.returns-clause-begun
-returns-clause-begun c = rw c.get-2.ensures at c.begin.ensures.begun
+returns-clause-begun c = rw c.get-rule.ensures at c.begin.ensures.begun
 
 pub returns-clause-left : goal.returns-clause-left
 returns-clause-left c =

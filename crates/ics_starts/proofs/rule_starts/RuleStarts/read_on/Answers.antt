@@ -33,8 +33,8 @@ invariant_of-self-in-Break-1 c =
       rises = subst (Rises moment_cmp) (sym same) s.rises;
       are = subst (AreHeld (clocks_in s.zones) s.event.now s.rule s.window s.asked) (sym same) s.are;
       past_end = s.past_end;
-      stretched = told-known s c.event.view_is c.stretch_at-self.ensures.stretch;
-      spanned = spans-known s _ c.event.view_is c.stretch_at-self.ensures.spans;
+      stretched = told-known s c.event.view_is c.keep_stretch.ensures.stretch;
+      spanned = spans-known s _ c.event.view_is c.keep_stretch.ensures.spans;
       own = s.own;
       looked = s.looked;
       placed = s.placed;
@@ -113,13 +113,13 @@ invariant_of-self-in-Some-1 c =
       none_day = s.none_day;
     }
 
-pub stretch_at-self-requires-clause-time : goal.stretch_at-self-requires-clause-time
-stretch_at-self-requires-clause-time c =
+pub keep_stretch-requires-clause-time : goal.keep_stretch-requires-clause-time
+keep_stretch-requires-clause-time c =
     let s = c.args.self.now in
     subst (λ (v : Event). IsTimeOf s.zones.zones.now v.start) (sym c.event.view_is) s.rule_of.time
 
-pub stretch_at-self-requires-clause-local : goal.stretch_at-self-requires-clause-local
-stretch_at-self-requires-clause-local c =
+pub keep_stretch-requires-clause-local : goal.keep_stretch-requires-clause-local
+keep_stretch-requires-clause-local c =
     let answer = rw c.get.ensures at c.in-Some.ensures.next in
     let b = c.bound-bound in
     let fits : SFits w64 c.seconds-seconds.result = search rules in
@@ -127,13 +127,13 @@ stretch_at-self-requires-clause-local c =
     one-moment c.args.self.now b.type_inv b.ensures.later b.ensures.within c.at-to.ensures c.in-Some.local c.in-Some.ensures.day answer in
     (omega (arith, ints, c.seconds-seconds.ensures, years), omega (arith, ints, c.seconds-seconds.ensures, years))
 
-pub stretch_at-self-requires-clause-known : goal.stretch_at-self-requires-clause-known
-stretch_at-self-requires-clause-known c =
+pub keep_stretch-requires-clause-known : goal.keep_stretch-requires-clause-known
+keep_stretch-requires-clause-known c =
     let s = c.args.self.now in
     subst (λ (v : Event). IsStretched (clock_of (clocks_in s.zones) v.start) s.stretch) (sym c.event.view_is) s.stretched
 
-pub stretch_at-self-requires-clause-spans : goal.stretch_at-self-requires-clause-spans
-stretch_at-self-requires-clause-spans c =
+pub keep_stretch-requires-clause-spans : goal.keep_stretch-requires-clause-spans
+keep_stretch-requires-clause-spans c =
     let s = c.args.self.now in
     subst (λ (v : Event). AreSpansOf (clock_of (clocks_in s.zones) v.start) s.spans) (sym c.event.view_is) s.spanned
 
@@ -141,9 +141,9 @@ pub instant_in-moment-requires-clause-stretch : goal.instant_in-moment-requires-
 instant_in-moment-requires-clause-stretch c =
     let s = c.args.self.now in
     let is = c.time_at-time.ensures ∙ ap (λ (v : Event). time_at v.start c.in-Some.local) c.event.view_is in
-    let told = told-known s c.event.view_is c.stretch_at-self.ensures.stretch in
-    subst (λ (t : Time). IsStretched (clock_of (clocks_in s.zones) t) c.stretch_at-self.result) (sym is)
-    (stretched-at (clocks_in s.zones) s.event.now.start c.in-Some.local c.stretch_at-self.result told)
+    let told = told-known s c.event.view_is c.keep_stretch.ensures.stretch in
+    subst (λ (t : Time). IsStretched (clock_of (clocks_in s.zones) t) c.keep_stretch.new.stretch) (sym is)
+    (stretched-at (clocks_in s.zones) s.event.now.start c.in-Some.local c.keep_stretch.new.stretch told)
 
 pub instant_in-moment-requires-clause-time : goal.instant_in-moment-requires-clause-time
 instant_in-moment-requires-clause-time c =
@@ -172,8 +172,8 @@ invariant_of-self-in-Some c =
       are = r.are;
       past_end = beyond-one s c.in-Some.local answer c.in-Some.ensures.day (omega (arith, ints, c.lesser_past-self.ensures.first))
           (λ past. let late = c.lesser_past-self.ensures.second (omega (arith, ints, past, moment)) in omega (arith, ints, late, moment));
-      stretched = told-known s c.event.view_is c.stretch_at-self.ensures.stretch;
-      spanned = spans-known s _ c.event.view_is c.stretch_at-self.ensures.spans;
+      stretched = told-known s c.event.view_is c.keep_stretch.ensures.stretch;
+      spanned = spans-known s _ c.event.view_is c.keep_stretch.ensures.spans;
       own = rw c.get.ensures at c.in-Some.ensures.own;
       looked = λ before m.
           (rw c.get.ensures at c.in-Some.ensures.looked) (number s.from) before (omega (arith, r.before, m)) (s.looked before (omega (arith, r.before, m)));

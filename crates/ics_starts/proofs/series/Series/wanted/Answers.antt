@@ -65,7 +65,7 @@ returns-then-names c =
     let s = c.args.self.now in
     let fits : to_z w64 (of_z w64 c.args.start.moment) ≡ c.args.start.moment = search rules in
     sym (given-up (clocks_in s.zones) s.window s.event.now s.since s.replaced c.args.start
-    (subst (λ t. is_among s.replaced t ≡ true) (fits ∙ c.requires.moment) (sym c.names.ensures ∙ c.if-names.true)))
+    (subst (λ t. is_among s.replaced t ≡ true) (fits ∙ c.requires.start.moment) (sym c.names.ensures ∙ c.if-names.true)))
 
 pub returns-in_err-occurrence : goal.returns-in_err-occurrence
 returns-in_err-occurrence c =
@@ -87,8 +87,8 @@ returns-then-is_removed c =
     c.in_ok-occurrence.ensures c.is_removed.ensures in
     let fits : to_z w64 (of_z w64 c.args.start.moment) ≡ c.args.start.moment = search rules in
     sym (not-out (clocks_in s.zones) s.window s.event.now s.since s.replaced c.args.start
-    (omega (arith, ints, c.requires.moment, c.if-start-self.false))
-    (subst (λ t. is_among s.replaced t ≡ false) (fits ∙ c.requires.moment) (sym c.names.ensures ∙ c.if-names.false))
+    (omega (arith, ints, c.requires.start.moment, c.if-start-self.false))
+    (subst (λ t. is_among s.replaced t ≡ false) (fits ∙ c.requires.start.moment) (sym c.names.ensures ∙ c.if-names.false))
     (out ∙ c.if-is_removed.true))
 
 pub returns-else-is_removed : goal.returns-else-is_removed
@@ -98,6 +98,6 @@ returns-else-is_removed c =
     c.in_ok-occurrence.ensures c.is_removed.ensures in
     let fits : to_z w64 (of_z w64 c.args.start.moment) ≡ c.args.start.moment = search rules in
     c.in_ok-occurrence.ensures ∙ sym (not-out (clocks_in s.zones) s.window s.event.now s.since s.replaced c.args.start
-    (omega (arith, ints, c.requires.moment, c.if-start-self.false))
-    (subst (λ t. is_among s.replaced t ≡ false) (fits ∙ c.requires.moment) (sym c.names.ensures ∙ c.if-names.false))
+    (omega (arith, ints, c.requires.start.moment, c.if-start-self.false))
+    (subst (λ t. is_among s.replaced t ≡ false) (fits ∙ c.requires.start.moment) (sym c.names.ensures ∙ c.if-names.false))
     (out ∙ c.if-is_removed.false))
