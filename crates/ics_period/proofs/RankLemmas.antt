@@ -1,15 +1,17 @@
 -- Members by their number, and the members at listed places.
-use Rattle.std.proofs.Common.{◌≡◌, ℕ, zero, suc, ◌+◌, ◌-◌, ◌*◌, ◌/◌, ◌%◌, ◌<◌, ◌≤◌, inl, inr, Bool, true, false, cond, ◌&&◌, refl, sym, ◌∙◌, arith}
+use Rattle.std.proofs.Common.{◌≡◌, ℕ, zero, suc, ◌+◌, ◌-◌, ◌*◌, ◌/◌, ◌%◌, ◌<◌, ◌≤◌, inl, inr, Bool, true, false, cond, min, ◌&&◌, ◌||◌, List}
+use Rattle.std.proofs.Common.{refl, sym, ap, ◌∙◌, arith}
 use Rattle.std.proofs.lemmas.Bool.{cases_lt, false_from_ne_true}
 use Rattle.std.proofs.lemmas.Nat.{div-add-mod'}
 use Rattle.std.proofs.Math.Nat.{mod-lt, mul-le-mul_right}
 use Rattle.std.proofs.lemmas.Bool.Decides.{nat_tests}
-use Rattle.ics_fields.specs.Sets.{IsLeastFrom}
+use Rattle.ics_fields.specs.Sets.{contains_wide, IsLeastFrom}
+use Rattle.ics_fields.proofs.SetLemmas.{wide_past}
 use Rattle.ics_period.specs.Ranks.{count}
-use Rattle.ics_period.specs.RecurrencePeriods.{IsNth, is_listed}
+use Rattle.ics_period.specs.RecurrencePeriods.{IsNth, IsFirstBelow, is_listed}
 use Rattle.ics_period.specs.Candidates.{lists_wide}
 use Rattle.ics_fields.specs.declared.ordinals.WideOrdinals.{WideOrdinals}
-use Rattle.ics_period.proofs.Counts.{count-suc, count-add, count-none, count_mono, count_one_more, count_one, count_none_at, count_some}
+use Rattle.ics_period.proofs.Counts.{count-same, count-suc, count-add, count-none, count_mono, count_one_more, count_one, count_none_at, count_some}
 
 -- what no number between two passes counts alike up to both
 pub count_flat : (a b : ℕ) (test : ℕ → Bool) → a ≤ b → ((m : ℕ) → a ≤ m → m < b → test m ≡ false) → count b test ≡ count a test
@@ -17,13 +19,83 @@ count_flat a b test h none =
     let rest = count-none (b - a) (λ k. test (a + k)) (λ k l. none (a + k) (omega arith) (omega arith)) in
     grind (arith, count-add a (b - a) test)
 
--- a walk from member to member that counts them
-module _ (test : ℕ → Bool) (place passed n : ℕ) (next : IsLeastFrom test place n) (own : passed ≡ count place test) where
-  pub before_next : count n test ≡ passed
-  before_next = count_flat place n test next.low next.least ∙ sym own
+-- a set has no member past its words
+pub count_clamped : (ws : List ℕ) (n : ℕ) → count (min n 384) (contains_wide ws) ≡ count n (contains_wide ws)
+count_clamped ws n = elim (cases_lt n 384) [
+  | inl l ↦ let e : min n 384 ≡ n = omega (arith, l) in rw e refl
+  | inr g ↦ let e : min n 384 ≡ 384 = omega (arith, g) in rw e (sym (count_flat 384 n (contains_wide ws) g (λ m low less. wide_past ws m low)))
+]
 
-  pub nth_next : passed + 1 ≡ count (n + 1) test
-  nth_next = grind (arith, before_next, count-suc n test, count_one (test n) next.passes)
+-- what passes one of two tests, and what passes both
+pub count_either : (n : ℕ) (f g : ℕ → Bool) → count n (λ m. f m || g m) + count n (λ m. f m && g m) ≡ count n f + count n g
+unfolding count
+count_either zero f g = refl
+count_either (suc n) f g = grind (arith, count_either n f g)
+
+pub count_both : (n : ℕ) (f g : ℕ → Bool) → count n (λ m. f m && g m) ≤ count n g
+unfolding count
+count_both zero f g = omega arith
+count_both (suc n) f g = grind (arith, count_both n f g)
+
+-- members by their number from 1, and by their number from the end
+count_front : (k : ℕ) (test : ℕ → Bool) → count 1 test + count k (λ j. test (j + 1)) ≡ count (k + 1) test
+unfolding count
+count_front zero test = omega arith
+count_front (suc k) test = let e : suc k + 1 ≡ suc (k + 1) = omega arith in rw e (omega (arith, count_front k test))
+
+count_back : (size k : ℕ) (test : ℕ → Bool) → k ≤ size → count (size - k + 1) test + count k (λ j. test (size - j)) ≡ count (size + 1) test
+unfolding count
+count_back size zero test h = let e : size - 0 + 1 ≡ size + 1 = omega arith in rw e (omega arith)
+count_back size (suc k) test h =
+    let here : size - suc k + 1 ≡ size - k = omega (arith, h) in
+    let next : size - k + 1 ≡ suc (size - k) = omega arith in
+    let before = count_back size k test (omega (arith, h)) in
+    rw here (omega (arith, rw next at before, count-suc (size - k) test))
+
+-- how many of the first k places are listed, by the sets of both ends
+abbrev pub is_twice : WideOrdinals → ℕ → ℕ → Bool
+is_twice positions size j = contains_wide positions.front (j + 1) && contains_wide positions.back (size - j)
+
+module _ (positions : WideOrdinals) (size k : ℕ) where
+  is_either : (j : ℕ) → j < k → is_listed positions size j ≡ (contains_wide positions.front (j + 1) || contains_wide positions.back (size - j))
+  is_either j h = let e : size + 1 - (j + 1) ≡ size - j = omega arith in rw e refl
+
+  pub count_listed : (front back : ℕ) → k ≤ size → count 1 (contains_wide positions.front) + front ≡ count (k + 1) (contains_wide positions.front)
+      → count (size - k + 1) (contains_wide positions.back) + back ≡ count (size + 1) (contains_wide positions.back)
+      → (count k (is_listed positions size) + count k (is_twice positions size) ≡ front + back) × (count k (is_twice positions size) ≤ back)
+  count_listed front back high one other =
+      let by_front = count_front k (contains_wide positions.front) in
+      let by_back = count_back size k (contains_wide positions.back) high in
+      let same = count-same k (is_listed positions size) (λ j. contains_wide positions.front (j + 1) || contains_wide positions.back (size - j)) is_either in
+      let sum = count_either k (λ j. contains_wide positions.front (j + 1)) (λ j. contains_wide positions.back (size - j)) in
+      let most = count_both k (λ j. contains_wide positions.front (j + 1)) (λ j. contains_wide positions.back (size - j)) in
+      (omega (arith, one, other, by_front, by_back, same, sum), omega (arith, other, by_back, most))
+
+-- a walk along the places listed from the start: none is listed twice before the first that may be listed from the end too, nor between two
+module _ (positions : WideOrdinals) (size k : ℕ) where
+  not_twice : (j : ℕ) → contains_wide positions.front (j + 1) ≡ false → is_twice positions size j ≡ false
+  not_twice j h = ap (λ x. x && contains_wide positions.back (size - j)) h
+
+  too_far : (j : ℕ) → j < size - 383 → is_twice positions size j ≡ false
+  too_far j h = grind (arith, wide_past positions.back (size - j))
+
+  pub twice_begun : (next : ℕ) → IsFirstBelow (λ j. contains_wide positions.front (j + 1)) (size - 383) k next → 0 ≡ count next (is_twice positions size)
+  twice_begun next first = sym (count-none next (is_twice positions size) (λ j h. elim (cases_lt j (size - 383)) [
+    | inl far ↦ too_far j far
+    | inr near ↦ not_twice j (first.none j near h)
+  ]))
+
+  pub twice_next : (place next : ℕ) → place < k → IsFirstBelow (λ j. contains_wide positions.front (j + 1)) (place + 1) k next
+      → count next (is_twice positions size) ≡ count place (is_twice positions size) + cond (is_twice positions size place) 1 0
+  twice_next place next high first =
+      let after : place + 1 ≤ next = elim (cases_lt next k) [
+        | inl l ↦ (first.found l).0
+        | inr g ↦ omega (arith, g, high)
+      ] in
+      let e : place + 1 ≡ suc place = omega arith in
+      count_flat (place + 1) next (is_twice positions size) after (λ j low less. not_twice j (first.none j low less))
+      ∙ ap (λ m. count m (is_twice positions size)) e
+      ∙ count-suc place (is_twice positions size)
 
 -- where a range of one number has the k-th member, that is it
 pub nth_last : (test : ℕ → Bool) (k low width : ℕ) → (count low test ≤ k) × ((k < count (low + width) test) × ((low + width ≤ 384) × (1 ≤ width))) →

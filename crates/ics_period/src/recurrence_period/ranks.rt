@@ -1,5 +1,5 @@
 //! The members of a set by their rank, and the places that BYSETPOS lists.
-ghost use Rattle.std.specs.Prelude.{◌≡◌, ◌<◌, ◌≤◌, ◌+◌, ◌-◌, ◌*◌, ◌/◌, ◌%◌, ◌^◌, IfSome};
+ghost use Rattle.std.specs.Prelude.{◌≡◌, ◌<◌, ◌≤◌, ◌+◌, ◌-◌, ◌*◌, ◌/◌, ◌%◌, ◌^◌, ◌&&◌, IfSome};
 ghost use Rattle.ics_fields.specs.Sets.{contains, contains_wide, IsNextIn};
 ghost use Rattle.ics_fields.specs.Ordinals.{lists_none_wide};
 ghost use Rattle.ics_period.specs.declared.effective_rule.EffectiveRule.{EffectiveRule};
@@ -58,6 +58,32 @@ fn next_listed(positions: &WideOrdinals, from: u64, size: u64) -> Option<u64>
     if next < size { Some(next) } else { None }
 }
 
+/// How many members of a set are not below `low` and are below `high`.
+fn members_between(set: &WideBitSet, low: u64, high: u64) -> u64
+    requires { low ≤ high }
+    ensures value { count low (contains_wide set.now) + result ≡ count high (contains_wide set.now) }
+    ensures bound { result ≤ 384 }
+{
+    members_below(set, high.min(384) as u16) - members_below(set, low.min(384) as u16)
+}
+
+/// How many of the first `k` places of `size` BYSETPOS lists both from the start and from the end.
+fn listed_twice(positions: &WideOrdinals, k: u64, size: u64) -> u64
+    requires some { k ≤ size }
+    requires small { size < 2 ^ 63 }
+    ensures { result ≡ count k (λ j. contains_wide positions.now.front (j + 1) && contains_wide positions.now.back (size - j)) }
+{
+    let mut total = 0;
+    let mut place = next_front(&positions.front, size.saturating_sub(383), k);
+    while place < k {
+        if positions.back.contains((size - place) as u16) {
+            total += 1;
+        }
+        place = next_front(&positions.front, place + 1, k);
+    }
+    total
+}
+
 /// How many of the first `k` places of `size` BYSETPOS lists.
 pub fn listed_below(positions: &WideOrdinals, k: u64, size: u64) -> u64
     requires some { k ≤ size }
@@ -65,16 +91,13 @@ pub fn listed_below(positions: &WideOrdinals, k: u64, size: u64) -> u64
     ensures value { result ≡ count k (is_listed positions.now size) }
     ensures bound { result ≤ k }
 {
-    let mut from = 0;
-    let mut total = 0;
-    while let Some(place) = next_listed(positions, from, size) {
-        if place >= k {
-            return total;
-        }
-        total += 1;
-        from = place + 1;
+    let front = members_between(&positions.front, 1, k + 1);
+    let back = members_between(&positions.back, size - k + 1, size + 1);
+    // Most rules count from one end alone.
+    if back == 0 {
+        return front;
     }
-    total
+    front + back - listed_twice(positions, k, size)
 }
 
 impl RecurrencePeriod {
