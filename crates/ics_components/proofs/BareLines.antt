@@ -6,7 +6,7 @@ use Rattle.ics_text.specs.Unfolded.{Line}
 use Rattle.ics_components.specs.declared.name.Name.TheVariants as name
 use Rattle.ics_components.specs.EventLines.{in_any_event, nests}
 use Rattle.ics_components.specs.Inner.BareLines.{GoesBare, StepsBare, bare_over, is_bare, leaves_doubt}
-use Rattle.ics_components.specs.Inner.Known.{is_known}
+use Rattle.ics_components.specs.Known.{is_known}
 use Rattle.ics_components.specs.Inner.PartsPass.{here}
 use Rattle.ics_components.specs.PlacedLines.{Open, Placed, named, name_on, path_behind, placed_from}
 use Rattle.ics_components.proofs.PassedLines.{unread-other}

@@ -33,8 +33,8 @@ use Rattle.ics_components.specs.declared.parsed_file.ClosedComponent.TheVariants
 use Rattle.ics_components.specs.declared.parsed_file.LineCheck.{LineCheck}
 use Rattle.ics_components.specs.Builders.{builder_at, collected_of}
 use Rattle.ics_components.specs.Components.{component_of, context_in}
-use Rattle.ics_components.specs.Inner.Known.{kept_name}
-use Rattle.ics_components.specs.Inner.KeptPass.{kept_pass, on_kept}
+use Rattle.ics_components.specs.Known.{kept_name}
+use Rattle.ics_components.specs.KeptPass.{kept_pass, on_kept}
 use Rattle.ics_components.specs.Kept.{SaysKept, if_kept, kept_ended, kept_fields, kept_parsed}
 use Rattle.ics_components.specs.Lines.{least_fault, line_fault, outside_fault, fault_in, fault_on, beside_in, context_at, event_has, is_of}
 use Rattle.ics_components.specs.Lines.{builder_note, builder_zone, event_note, zone_note, observance_note, noted, joined, closed, opened, behind}
@@ -300,11 +300,11 @@ module _ (keep : KeptTexts) where
   pass-kept (line ∷ lines) frames last had = step line.number lines (pass-kept lines) (content_of line.bytes) frames had
 
   -- WHAT IS GATHERED of a file, or its first fault.
-  gathered-says : (parsed : ParsedFileSeen) (said : Result ParsedFileSeen Fault) → kept_result said ≡ Ok parsed → SaysKept keep (Ok parsed) said
+  pub gathered-says : (parsed : ParsedFileSeen) (said : Result ParsedFileSeen Fault) → kept_result said ≡ Ok parsed → SaysKept keep (Ok parsed) said
   gathered-says parsed (Ok whole) e = (whole, refl, cc)
   gathered-says parsed (Err fault) e = cc
 
-  refused-says : (fault : Fault) (said : Result ParsedFileSeen Fault) → kept_result said ≡ Err fault → said ≡ Err fault
+  pub refused-says : (fault : Fault) (said : Result ParsedFileSeen Fault) → kept_result said ≡ Err fault → said ≡ Err fault
   refused-says fault (Ok whole) e = cc
   refused-says fault (Err other) e = e
 
@@ -340,7 +340,7 @@ module _ (keep : KeptTexts) where
     length = sound.length;
   }
 
-  sound-kept : (had : ParsedFileSeen) → IsSoundParsed had → IsSoundParsed (kept_parsed keep had)
+  pub sound-kept : (had : ParsedFileSeen) → IsSoundParsed had → IsSoundParsed (kept_parsed keep had)
   sound-kept had sound = record {
     zones = sound.zones;
     events =

@@ -44,3 +44,4 @@ pub mod FrontSteps
 pub mod FrontParts
 pub mod FrontedWhole
 pub mod KeptPass
+pub mod FileParts

@@ -10,8 +10,9 @@ use Rattle.ics_values.specs.declared.text_name.TextName.TheVariants as text
 use Rattle.ics_components.specs.declared.refused.Refused.{Refused}
 use Rattle.ics_components.specs.declared.refused.Refused.TheVariants.{Memory, Fault}
 use Rattle.ics_text.specs.ContentLines.{Parts}
-use Rattle.ics_components.specs.Inner.Known.{is_kept, is_known, kept_name, read_name}
-use Rattle.ics_components.specs.Inner.KeptPass.{pass_on, GoesBehind}
+use Rattle.ics_components.specs.Known.{is_kept, is_known, kept_name, read_name}
+use Rattle.ics_components.specs.KeptPass.{pass_on}
+use Rattle.ics_components.specs.Inner.GoingBehind.{GoesBehind}
 use Rattle.ics_components.specs.Names.{same_name}
 use Rattle.ics_components.specs.Parted.{Reads}
 use Rattle.ics_components.specs.Inner.PassedLines.{Passes}

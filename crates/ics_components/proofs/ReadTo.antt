@@ -5,9 +5,6 @@ use Rattle.ics_text.specs.ContentLines.{Parts, content_of}
 use Rattle.ics_text.specs.Unfolded.{Line, begins_with_fold, unfolded}
 use Rattle.ics_values.specs.KeptTexts.{KeptTexts, all_texts}
 use Rattle.ics_components.specs.declared.fault.Fault.{Fault}
-use Rattle.ics_components.specs.declared.fault.FileFault.{FileFault}
-use Rattle.ics_components.specs.declared.fault.FileFault.TheVariants.{At}
-use Rattle.ics_components.specs.declared.fault.FileFault.TheVariants as file_fault
 use Rattle.ics_components.specs.declared.first_round.FirstRound.{FirstRound}
 use Rattle.ics_components.specs.declared.name.Name.{Name}
 use Rattle.ics_components.specs.declared.refused.Refused.{Refused}
@@ -15,9 +12,10 @@ use Rattle.ics_components.specs.declared.refused.Refused.TheVariants as refused
 use Rattle.ics_components.specs.FirstFault.{bad_fold}
 use Rattle.ics_components.specs.Fronts.{IsFrontOf}
 use Rattle.ics_components.specs.FrontSeen.{FrontSeen, no_front}
-use Rattle.ics_components.specs.Inner.FrontedRound.{IsReadOf, IsReadTo}
-use Rattle.ics_components.specs.Inner.KeptPass.{GoesBehind, kept_pass}
-use Rattle.ics_components.specs.Inner.Known.{read_name}
+use Rattle.ics_components.specs.Inner.FrontedRound.{IsReadOf}
+use Rattle.ics_components.specs.KeptPass.{kept_pass}
+use Rattle.ics_components.specs.Inner.GoingBehind.{GoesBehind}
+use Rattle.ics_components.specs.Known.{read_name}
 use Rattle.ics_components.specs.Inner.Passing.{ReadsOn}
 use Rattle.ics_components.specs.Inner.PartsPass.{here}
 use Rattle.ics_components.specs.Lines.{Leaves, behind, fault_on, passing}
@@ -88,12 +86,6 @@ read-of path lines rest round now had has e = record {
   frames = now.stack;
   reads = has.reads ∙ ap (Reads now.stack) (sym e);
 }
-
-pub read-to : (keep : KeptTexts) (result : Result Unit FileFault) (lines : List Placed) (round now : FirstRound) →
-    (keep ≡ all_texts → IsReadOf lines round now.parsed) → IsReadTo keep result lines round now
-read-to keep (Ok done) lines round now is = tt
-read-to keep (Err file_fault.Memory) lines round now is = tt
-read-to keep (Err (At line kind)) lines round now is = is
 
 -- what the pass says of a file that begins with no fold
 pub read-said : (bytes : List ℕ) (said : Result ParsedFileSeen Fault) → (begins_with_fold bytes ≡ true → ⊥) →

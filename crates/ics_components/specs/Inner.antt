@@ -1,7 +1,7 @@
 -- Words of private contracts and of proofs: no public clause reaches them.
 pub mod PartsPass
-pub mod Known
-pub mod KeptPass
+pub mod GoingBehind
+pub mod TakenParts
 pub mod PassedLines
 pub mod Passing
 pub mod BareLines

@@ -20,4 +20,7 @@ pub mod Parted
 pub mod FrontSeen
 pub mod Fronts
 pub mod Kept
+pub mod Known
+pub mod KeptPass
+pub mod FileReading
 pub mod Inner

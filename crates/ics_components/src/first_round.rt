@@ -1,18 +1,20 @@
 //! The first round over the lines of a file (RFC 5545, sections 3.4 and 3.6).
-ghost use Rattle.std.specs.Prelude.{◌≡◌, ℕ, ◌+◌, ◌<◌, ◌≤◌, ◌^◌, List, length, IfOk, Some, IfSome};
+ghost use Rattle.std.specs.Prelude.{◌≡◌, ℕ, ◌+◌, ◌<◌, ◌≤◌, ◌^◌, ◌∷◌, [], List, length, IfOk, None, Some, IfSome};
+ghost use Rattle.ics_text.specs.Parts.{last_number, lines_left};
 ghost use Rattle.ics_text.specs.Passing.{IsPassed};
 ghost use Rattle.ics_text.specs.ReadLines.{TakesRead};
 ghost use Rattle.ics_text.specs.Unfolded.{Line, Within};
 ghost use Rattle.ics_values.specs.KeptTexts.{KeptTexts};
 ghost use Rattle.ics_components.specs.Fronts.{IsFirstRead};
 ghost use Rattle.ics_components.specs.Inner.FrontedRound.{IsReadTo};
-ghost use Rattle.ics_components.specs.Inner.KeptPass.{pass_on, GoesBehind};
-ghost use Rattle.ics_components.specs.Inner.Known.{is_kept};
+ghost use Rattle.ics_components.specs.Inner.GoingBehind.{GoesBehind, GoesOver};
+ghost use Rattle.ics_components.specs.Known.{is_kept};
 ghost use Rattle.ics_components.specs.Kept.{SaysKept};
+ghost use Rattle.ics_components.specs.KeptPass.{pass_on};
 ghost use Rattle.ics_components.specs.PlacedLines.{Open, placed_from};
-ghost use Rattle.ics_components.specs.Pass.{at_end, parsed_of, unless, Says};
+ghost use Rattle.ics_components.specs.Pass.{at_end, bottom, parsed_of, unless, Says};
 ghost use Rattle.ics_components.specs.Inner.Passing.{GoesOn, ReadsOn};
-ghost use Rattle.ics_components.specs.ParsedFiles.{IsSoundParsed};
+ghost use Rattle.ics_components.specs.ParsedFiles.{IsSoundParsed, nothing_parsed};
 
 use crate::fault::{Fault, FaultKind, FileFault};
 use crate::front::Front;
@@ -21,19 +23,30 @@ use crate::name::{kept_as, name_of};
 use crate::parsed_file::ParsedFile;
 use crate::refused::Refused;
 use crate::stack::Stack;
-use ics_text::{Lines, Logical, ReadLine, content, numbers_within};
+use ics_text::{Logical, PartLines, ReadLine, content, part_numbers_within};
 use ics_values::KeptTexts;
 use std::alloc::{AllocError, Global};
 
 /// The first round behind some lines: the components that are open, what is gathered, and the number of the last line.
 #[derive(Drop)]
-struct FirstRound {
+pub struct FirstRound {
     stack: Stack,
     parsed: ParsedFile,
     last: Option<u64>,
 }
 
 impl FirstRound {
+    /// No line is read.
+    pub fn new(alloc: Global) -> FirstRound
+        ensures { result ≡ record { stack = bottom ∷ []; parsed = nothing_parsed; last = None } }
+    {
+        FirstRound {
+            stack: Stack::new(alloc),
+            parsed: ParsedFile::new(alloc),
+            last: None,
+        }
+    }
+
     /// Takes one line, or answers its fault. A text that is not kept is taken for a property that is not read.
     #[tactic(auto, using(crate::proofs::ReadTo::goes_there, crate::proofs::ReadTo::reads_there, crate::proofs::ReadTo::reads_refused))]
     fn line(&mut self, alloc: Global, keep: KeptTexts, line: &Logical<'_>) -> Result<(), Refused>
@@ -88,7 +101,7 @@ impl FirstRound {
     }
 
     /// The fault that stands where the lines end, if there is one.
-    fn end(&self) -> Result<(), FileFault>
+    pub fn end(&self) -> Result<(), FileFault>
         requires { IfSome self.now.last (λ n. n + 1 < 2 ^ 64) }
         ensures { Says (λ _. self.now.parsed) result (unless (at_end self.now.stack self.now.last) self.now.parsed) }
     {
@@ -100,19 +113,22 @@ impl FirstRound {
         Err(FileFault::At { line, kind })
     }
 
-    /// Takes the lines up to the first that has a fault. The fault that it answers may stand where they end.
-    fn lines(
+    /// Takes the lines of a part of the file up to the first that has a fault. Answers the number of line ends behind them.
+    #[inline(never)]
+    pub fn lines(
         &mut self,
         alloc: Global,
         keep: KeptTexts,
-        mut lines: Lines<'_>,
-    ) -> Result<(), FileFault>
-        requires lines { (n : ℕ) × (n + 1 < 2 ^ 64) × Within n lines }
+        mut part: PartLines<'_>,
+    ) -> Result<u64, FileFault>
+        requires lines { (n : ℕ) × (n + 1 < 2 ^ 64) × Within n (lines_left part) }
         requires last { IfSome self.old.last (λ n. n + 1 < 2 ^ 64) }
-        ensures says { Says (λ _. self.new.parsed) result (pass_on keep self.old lines.entry) }
-        ensures front { (path : List Open) → IsReadTo keep result (placed_from path lines.entry) self.old self.new }
+        ensures over { GoesOver keep result (lines_left part.entry) self.old self.new }
+        ensures front { (path : List Open) → IsReadTo keep result (placed_from path (lines_left part.entry)) self.old self.new }
+        ensures last { IfOk result (λ _. IfSome self.new.last (λ n. n + 1 < 2 ^ 64)) }
+        ensures counted { IfOk result (λ breaks. breaks + 1 ≡ last_number part.entry) }
     {
-        'lines: while let Some(line) = lines.next_read(alloc, &Known { keep })? {
+        'lines: while let Some(line) = part.next_read(alloc, &Known { keep })? {
             let (number, taken) = self.take(alloc, keep, line);
             match taken {
                 Ok(()) => {}
@@ -120,7 +136,32 @@ impl FirstRound {
                 Err(Refused::Fault(kind)) => return Err(FileFault::At { line: number, kind }),
             }
         }
+        Ok(part.breaks())
+    }
+
+    /// Takes the lines of a whole file up to the first that has a fault. The fault that it answers may stand where they end.
+    fn read(
+        &mut self,
+        alloc: Global,
+        keep: KeptTexts,
+        part: PartLines<'_>,
+    ) -> Result<(), FileFault>
+        requires lines { (n : ℕ) × (n + 1 < 2 ^ 64) × Within n (lines_left part) }
+        requires last { IfSome self.old.last (λ n. n + 1 < 2 ^ 64) }
+        ensures says { Says (λ _. self.new.parsed) result (pass_on keep self.old (lines_left part.entry)) }
+        ensures front { (path : List Open) → IsReadTo keep result (placed_from path (lines_left part.entry)) self.old self.new }
+    {
+        self.lines(alloc, keep, part)?;
         self.end()
+    }
+
+    /// What is gathered of the lines.
+    pub fn into_parsed(self) -> ParsedFile
+        ensures { result ≡ self.parsed }
+    {
+        let FirstRound { stack, parsed, .. } = self;
+        drop(stack);
+        parsed
     }
 }
 
@@ -138,27 +179,21 @@ pub fn read_first(alloc: Global, keep: KeptTexts, bytes: &[u8]) -> Result<FirstR
     requires { length bytes.now ≤ 16_777_216 }
     ensures { IfOk result (IsFirstRead keep bytes.now) }
 {
-    numbers_within();
-    let Ok(lines) = Lines::new(bytes) else {
+    part_numbers_within();
+    let Ok(part) = PartLines::new(bytes) else {
         let fault = Fault {
             line: 1,
             kind: FaultKind::BadFold,
         };
         return Ok(FirstRead::Faulty(fault, Front::none(alloc)));
     };
-    let mut round = FirstRound {
-        stack: Stack::new(alloc),
-        parsed: ParsedFile::new(alloc),
-        last: None,
-    };
-    let read = round.lines(alloc, keep, lines);
-    let FirstRound { stack, parsed, .. } = round;
-    drop(stack);
-    match read {
-        Ok(()) => Ok(FirstRead::Whole(parsed)),
+    let mut round = FirstRound::new(alloc);
+    match round.read(alloc, keep, part) {
+        Ok(()) => Ok(FirstRead::Whole(round.into_parsed())),
         Err(FileFault::Memory) => Err(AllocError),
         Err(FileFault::At { line, kind }) => {
-            Ok(FirstRead::Faulty(Fault { line, kind }, Front::of(parsed)))
+            let front = Front::of(round.into_parsed());
+            Ok(FirstRead::Faulty(Fault { line, kind }, front))
         }
     }
 }

@@ -10,7 +10,7 @@ pub struct Known {
 }
 
 impl Reads for Known {
-    ghost use Rattle.ics_components.specs.Inner.Known.{is_kept};
+    ghost use Rattle.ics_components.specs.Known.{is_kept};
 
     ghost reads = { λ known. is_kept known.keep };
 
@@ -24,7 +24,7 @@ impl Reads for Known {
 pub struct Sought;
 
 impl Reads for Sought {
-    ghost use Rattle.ics_components.specs.Inner.Known.{is_known};
+    ghost use Rattle.ics_components.specs.Known.{is_known};
 
     ghost reads = { λ _. is_known };
 

@@ -5,7 +5,7 @@ ghost use Rattle.ics_text.specs.Bytes.{upper};
 ghost use Rattle.ics_values.specs.TextNames.{text_named};
 ghost use Rattle.ics_components.specs.Names.{name_of, named_in, other_words, text_or};
 ghost use Rattle.ics_components.specs.declared.name.Name.TheVariants.{Other};
-ghost use Rattle.ics_components.specs.Inner.Known.{kept_name};
+ghost use Rattle.ics_components.specs.Known.{kept_name};
 
 use ics_values::{KeptTexts, TextName};
 

@@ -4,7 +4,7 @@ ghost use Rattle.ics_text.specs.ContentLines.{content_of};
 ghost use Rattle.ics_text.specs.ReadLines.{TakesRead};
 ghost use Rattle.ics_text.specs.Unfolded.{Line};
 ghost use Rattle.ics_components.specs.Inner.BareLines.{GoesBare, StepsBare, bare_over, is_bare, leaves_doubt};
-ghost use Rattle.ics_components.specs.Inner.Known.{is_known};
+ghost use Rattle.ics_components.specs.Known.{is_known};
 ghost use Rattle.ics_components.specs.Inner.PartsPass.{here};
 ghost use Rattle.ics_components.specs.Parted.{LacksUids};
 ghost use Rattle.ics_components.specs.PlacedLines.{named, placed_from};

@@ -1,4 +1,7 @@
 pub mod Cuts
+pub mod Apart
+pub mod Endings
+pub mod PartNumbers
 pub mod Joins
 pub mod Walks
 pub mod Spelled

@@ -1,6 +1,6 @@
 ghost use Rattle.std.specs.Prelude.{◌≡◌, ℕ, true, false, ◌+◌, ◌<◌, ◌≤◌, length, filter, IfOk, OnErr};
 ghost use Rattle.ics_text.specs.Bytes.{begins, is_blank};
-ghost use Rattle.ics_text.specs.Unfolded.{attach, is_line, lines_from, BeginsFolded};
+ghost use Rattle.ics_text.specs.Unfolded.{attach, is_line, lines_from, physical_lines, BeginsFolded};
 ghost use Rattle.ics_text.specs.Inner.Reading.{line_of, all_from, kept, line_by, Begins};
 
 use crate::bytes::without_first;
@@ -33,6 +33,7 @@ pub fn first_line<'a, R: Reads>(
     bytes: &'a [u8],
 ) -> Result<FirstLine<'a>, AllocError>
     ensures found { IfOk result (λ f. (n : ℕ) → Begins (R.reads reader.now) n f.bytes (lines_from n bytes.now) (lines_from (n + f.breaks) f.rest.now)) }
+    ensures counted { IfOk result (λ f. f.breaks + length (physical_lines f.rest.now) ≡ length (physical_lines bytes.now)) }
     ensures fewer { IfOk result (λ f. f.breaks + length f.rest.now ≤ length bytes.now) }
     ensures shorter { IfOk result (λ f. 0 < length bytes.now → length f.rest.now < length bytes.now) }
     ensures err { OnErr result ((n : ℕ) → BeginsFolded (lines_from n bytes.now)) }
@@ -65,6 +66,7 @@ fn folded_line<'a, R: Reads>(
     requires { begins is_blank after.now ≡ true }
     ensures found { IfOk result (λ f. (n : ℕ) → Begins (R.reads reader.now) n f.bytes
         (filter is_line (attach (line_of n first.now false) (all_from (n + 1) after.now))) (lines_from (n + f.breaks) f.rest.now)) }
+    ensures counted { IfOk result (λ f. f.breaks + length (physical_lines f.rest.now) ≡ length (physical_lines after.now) + 1) }
     ensures fewer { IfOk result (λ f. f.breaks + length f.rest.now ≤ length after.now + 1) }
     ensures shorter { IfOk result (λ f. length f.rest.now ≤ length after.now) }
     ensures err { OnErr result ((n : ℕ) → BeginsFolded (filter is_line (attach (line_of n first.now false) (all_from (n + 1) after.now)))) }
@@ -94,6 +96,7 @@ fn join_folds<'a>(alloc: Global, first: &[u8], after: &'a [u8]) -> Result<Found<
     requires { begins is_blank after.now ≡ true }
     ensures found { IfOk result (λ f. (n : ℕ) → filter is_line (attach (line_of n first.now false) (all_from (n + 1) after.now))
         ≡ kept (line_by n f.bytes) (lines_from (n + f.breaks) f.rest.now)) }
+    ensures counted { IfOk result (λ f. f.breaks + length (physical_lines f.rest.now) ≡ length (physical_lines after.now) + 1) }
     ensures fewer { IfOk result (λ f. f.breaks + length f.rest.now ≤ length after.now + 1) }
     ensures shorter { IfOk result (λ f. length f.rest.now ≤ length after.now) }
     ensures err { OnErr result ((n : ℕ) → BeginsFolded (filter is_line (attach (line_of n first.now false) (all_from (n + 1) after.now)))) }

@@ -1,9 +1,12 @@
-ghost use Rattle.std.specs.Prelude.{◌≡◌, ℕ, List, ◌+◌, length};
+ghost use Rattle.std.specs.Prelude.{◌≡◌, ℕ, List, ◌+◌, ◌++◌, ◌≤◌, length, true, false};
 ghost use Rattle.std.specs.Prelude.{◌↔◌, Some};
 ghost use Rattle.std.specs.List.{AllByRecursion, flat_map};
 ghost use Rattle.ics_text.specs.ContentLines.{Param, Parts, IsContent, IsParams, content_of, first_value, param_of};
 ghost use Rattle.ics_text.specs.Folding.{Written, IsWritten, folded_lines, written_text};
-ghost use Rattle.ics_text.specs.Unfolded.{unfolded, without_mark, Rises, Within};
+ghost use Rattle.ics_text.specs.Bytes.{begins, is_blank};
+ghost use Rattle.ics_text.specs.Cuts.{ends_line};
+ghost use Rattle.ics_text.specs.Parts.{Part, last_number, lines_left};
+ghost use Rattle.ics_text.specs.Unfolded.{begins_with_fold, lines_from, unfolded, without_mark, Rises, Within};
 
 /// The numbers of the lines of a file rise strictly.
 pub fn numbers_rise()
@@ -13,6 +16,25 @@ pub fn numbers_rise()
 /// A file has at most one line more than it has bytes.
 pub fn numbers_within()
     ensures { (file : List ℕ) → Within (length file + 1) (unfolded file) }
+{}
+
+/// A part of a file has at most one line more than it has bytes.
+pub fn part_numbers_within()
+    ensures lines { (part : Part) → Within (part.breaks + length part.bytes + 1) (lines_left part) }
+    ensures last { (part : Part) → last_number part ≤ part.breaks + length part.bytes + 1 }
+{}
+
+/// The lines of a part that is cut are those of its first bytes and those of the others.
+pub fn lines_apart()
+    ensures { (breaks : ℕ) (head rest : List ℕ) → ends_line head ≡ true → begins is_blank rest ≡ false → lines_from (breaks + 1) (head ++ rest)
+        ≡ lines_from (breaks + 1) head ++ lines_from (last_number (record { breaks = breaks; bytes = head })) rest }
+{}
+
+/// The same of a file that is cut. Its first bytes tell whether it begins with a byte order mark, and whether it begins with a fold.
+pub fn unfolded_apart()
+    ensures lines { (head rest : List ℕ) → ends_line head ≡ true → begins is_blank rest ≡ false → unfolded (head ++ rest)
+        ≡ unfolded head ++ lines_from (last_number (record { breaks = 0; bytes = without_mark head })) rest }
+    ensures fold { (head rest : List ℕ) → ends_line head ≡ true → begins_with_fold (head ++ rest) ≡ begins_with_fold head }
 {}
 
 /// The text of parameters has at most one reading.

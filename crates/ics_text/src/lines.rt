@@ -3,9 +3,8 @@ ghost use Rattle.ics_text.specs.Unfolded.{StandsIn, unfolded, begins_with_fold, 
 ghost use Rattle.ics_text.specs.ReadLines.{TakesRead};
 
 use crate::fault::BadFold;
-use crate::folds::{FirstLine, first_line};
 use crate::logical::Logical;
-use crate::physical::{is_continued, without_mark};
+use crate::part_lines::PartLines;
 use crate::read_line::ReadLine;
 use crate::reads::{Every, Reads};
 use std::alloc::{AllocError, Global};
@@ -14,19 +13,17 @@ use std::marker::Model;
 /// The lines of a file that were not read yet, unfolded and without the empty ones (RFC 5545, section 3.1).
 #[derive(Drop)]
 pub struct Lines<'a> {
-    rest: &'a [u8],
-    breaks: u64,
+    part: PartLines<'a>,
 }
 
 impl<'a> Model for Lines<'a> {
-    ghost use Rattle.std.specs.Prelude.{List, ◌+◌, ◌<◌, ◌^◌, length};
-    ghost use Rattle.ics_text.specs.Unfolded.{Line, lines_from};
+    ghost use Rattle.std.specs.Prelude.{List};
+    ghost use Rattle.ics_text.specs.Parts.{lines_left};
+    ghost use Rattle.ics_text.specs.Unfolded.{Line};
 
     ghost Value = { List Line };
 
-    ghost view = { λ a. lines_from (a.breaks + 1) a.rest.now };
-
-    ghost invariant = { λ a. a.breaks + length a.rest.now < 2 ^ 64 };
+    ghost view = { λ a. lines_left a.part };
 }
 
 impl<'a> Lines<'a> {
@@ -37,11 +34,8 @@ impl<'a> Lines<'a> {
         ensures places { IfOk result (λ lines. All (λ line. line.folded ≡ false → StandsIn bytes.now line) lines) }
         ensures refused { IsErr result ↔ IsTrue (begins_with_fold bytes.now) }
     {
-        let rest = without_mark(bytes);
-        if is_continued(rest) {
-            return Err(BadFold);
-        }
-        Ok(Lines { rest, breaks: 0 })
+        let part = PartLines::new(bytes)?;
+        Ok(Lines { part })
     }
 
     /// The next line, or None from the end on. Only a folded line is allocated. If that fails, the answer
@@ -68,22 +62,6 @@ impl<'a> Lines<'a> {
         ensures unchanged { OnErr result (self.new ≡ self.old) }
         ensures only_folded { OnErr result (BeginsFolded self.old) }
     {
-        'lines: while !self.rest.is_empty() {
-            let number = self.breaks + 1;
-            let FirstLine {
-                bytes,
-                rest,
-                breaks,
-            } = first_line(alloc, reader, self.rest)?;
-            self.rest = rest;
-            self.breaks += breaks;
-            let Some(bytes) = bytes else {
-                return Ok(Some(ReadLine::PassedOver(number)));
-            };
-            if !bytes.as_slice().is_empty() {
-                return Ok(Some(ReadLine::Whole(Logical { number, bytes })));
-            }
-        }
-        Ok(None)
+        self.part.next_read(alloc, reader)
     }
 }

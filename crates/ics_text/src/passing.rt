@@ -2,7 +2,7 @@
 ghost use Rattle.std.specs.Prelude.{◌≡◌, ℕ, List, true, false, ◌+◌, ◌≤◌, ◌++◌, length, filter, IsTrue};
 ghost use Rattle.ics_text.specs.Bytes.{begins, is_blank};
 ghost use Rattle.ics_text.specs.Passing.{IsUnread};
-ghost use Rattle.ics_text.specs.Unfolded.{attach, is_line, lines_from};
+ghost use Rattle.ics_text.specs.Unfolded.{attach, is_line, lines_from, physical_lines};
 ghost use Rattle.ics_text.specs.Inner.Reading.{line_of, all_from, kept};
 
 use crate::bytes::name_len;
@@ -24,6 +24,7 @@ pub fn pass_folds<'a>(after: &'a [u8]) -> (&'a [u8], u64)
     requires { begins is_blank after.now ≡ true }
     ensures passed { (more : List ℕ) × ((n : ℕ) (first : List ℕ) → filter is_line (attach (line_of n first false) (all_from (n + 1) after.now))
         ≡ kept (line_of n (first ++ more) true) (lines_from (n + result.1) result.0.now)) }
+    ensures counted { result.1 + length (physical_lines result.0.now) ≡ length (physical_lines after.now) + 1 }
     ensures fewer { result.1 + length result.0.now ≤ length after.now + 1 }
     ensures shorter { length result.0.now ≤ length after.now }
 {

@@ -7,7 +7,8 @@ ghost use Rattle.ics_text.specs.Inner.Reading.{physical_behind, without_cr};
 use crate::bytes::is_blank;
 use bstr::ByteSlice;
 
-const LF: u8 = b'\n';
+/// The byte that ends a line.
+pub const LF: u8 = b'\n';
 
 const CR: &[u8] = b"\r";
 

@@ -16,7 +16,7 @@ use Rattle.ics_components.specs.ParsedFileSeen.{ParsedFileSeen}
 use Rattle.ics_components.specs.Parted.{Broken, LinesRead, PartedFileSeen, Reads, read_behind}
 use Rattle.ics_components.specs.PlacedLines.{Placed, path_behind}
 
--- At a fault, what the first round has gathered is what it reads of the lines before some of these lines, where all texts are kept.
+-- At a fault or where the lines end, what the first round has gathered is what it reads of the lines before some of these lines, where all texts are kept.
 pub record IsReadOf (lines : List Placed) (round : FirstRound) (had : ParsedFileSeen) : Type 0 where
   pub before : List Placed
   pub behind : List Placed
@@ -24,10 +24,9 @@ pub record IsReadOf (lines : List Placed) (round : FirstRound) (had : ParsedFile
   pub frames : List Frame
   pub reads : read_behind (Reads round.stack round.parsed) before ≡ Reads frames had
 
-abbrev pub IsReadTo : KeptTexts → Result Unit FileFault → List Placed → FirstRound → FirstRound → Type 0
-IsReadTo keep (Ok done) lines round now = Unit {0}
+abbrev pub IsReadTo : {X : Type 0} → KeptTexts → Result X FileFault → List Placed → FirstRound → FirstRound → Type 0
 IsReadTo keep (Err Memory) lines round now = Unit {0}
-IsReadTo keep (Err (At line kind)) lines round now = keep ≡ all_texts → IsReadOf lines round now.parsed
+IsReadTo keep read lines round now = keep ≡ all_texts → IsReadOf lines round now.parsed
 
 -- THE PARTS' ROUND WITH A FRONT, as long as that has events. Their lines are not read: the reader stands still.
 abbrev pub still : LinesRead

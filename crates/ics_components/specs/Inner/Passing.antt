@@ -6,7 +6,7 @@ use Rattle.ics_values.specs.KeptTexts.{KeptTexts, all_texts}
 use Rattle.ics_components.specs.declared.first_round.FirstRound.{FirstRound}
 use Rattle.ics_components.specs.declared.refused.Refused.{Refused}
 use Rattle.ics_components.specs.declared.refused.Refused.TheVariants as refused
-use Rattle.ics_components.specs.Inner.KeptPass.{GoesBehind}
+use Rattle.ics_components.specs.Inner.GoingBehind.{GoesBehind}
 use Rattle.ics_components.specs.Parted.{Reads, read_on}
 
 -- ONE LINE, as the steps of the pass read it where all texts are kept. One that has a fault leaves what is gathered as it is.

@@ -21,6 +21,7 @@ loop-line-preserved c =
           ∙ ap (filter is_line) (grown-more n (n + c.loop-line.breaks) bytes behind on)
           ∙ ap (λ k. filter is_line (grown n (bytes ++ drop 1 line) k behind)) (add_assoc n c.loop-line.breaks 1)
           ∙ ap (λ t. filter is_line (grown n t (n + (c.loop-line.breaks + 1)) behind)) (sym items);
+      counted = omega (arith, ap length on.cut, c.loop-line.invariant.counted);
       fewer = omega (arith, less);
       some = omega arith;
     }

@@ -1,4 +1,4 @@
-use Rattle.std.proofs.Common.{ℕ, ◌+◌, ◌++◌, List, [], drop, arith, ap, ◌∙◌, add_assoc, append_assoc, filter}
+use Rattle.std.proofs.Common.{ℕ, ◌+◌, ◌++◌, List, [], drop, length, arith, ap, ◌∙◌, add_assoc, append_assoc, filter}
 use Rattle.std.proofs.lemmas.Grind.{common_steps}
 use Rattle.ics_text.specs.Unfolded.{is_line, physical_lines}
 use Rattle.ics_text.proofs.Joins.{grown, GoOn, grown-more, grown-last}
@@ -21,6 +21,7 @@ loop-behind-preserved c =
             ∙ ap (λ k. filter is_line (grown n ((first ++ more) ++ drop 1 line) k behind)) (add_assoc n c.loop-behind.breaks 1)
             ∙ ap (λ t. filter is_line (grown n t (n + (c.loop-behind.breaks + 1)) behind)) (append_assoc first more (drop 1 line)),
       );
+      counted = omega (arith, ap length on.cut, c.loop-behind.invariant.counted);
       fewer = omega (arith, less);
       some = omega arith;
     }
@@ -37,6 +38,7 @@ loop-behind-preserved-in-None c =
     ∙ ap (λ t. filter is_line (grown n t (n + c.loop-behind.breaks) [])) (append_assoc first more (drop 1 line)) in
     record {
       grows = (more ++ drop 1 line, λ n first. let done = grows n first in grind (arith, common_steps, done));
+      counted = let one = ap length on.cut in grind (arith, common_steps, one);
       fewer = grind (arith, common_steps);
       some = grind (arith, common_steps);
     }

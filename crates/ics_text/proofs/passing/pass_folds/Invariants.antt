@@ -1,5 +1,5 @@
 use Rattle.std.proofs.Common.{◌≡◌, ◌+◌, ◌≤◌, ◌++◌, ℕ, List, false, length, filter}
-use Rattle.ics_text.specs.Unfolded.{attach, is_line}
+use Rattle.ics_text.specs.Unfolded.{attach, is_line, physical_lines}
 use Rattle.ics_text.specs.Inner.Reading.{line_of, all_from}
 use Rattle.ics_text.proofs.Joins.{grown}
 use Rattle.ics_text.proofs.passing.pass_folds.Given as goal
@@ -9,6 +9,7 @@ abbrev pub invariant-loop-behind : goal.invariant-loop-behind
 invariant-loop-behind l = record {
   grows : (more : List ℕ) × ((n : ℕ) (first : List ℕ) → filter is_line (attach (line_of n first false) (all_from (n + 1) l.after))
       ≡ filter is_line (grown n (first ++ more) (n + l.breaks) l.rest));
+  counted : l.breaks + length (physical_lines l.rest) ≡ length (physical_lines l.after) + 1;
   fewer : l.breaks + length l.rest ≤ length l.after + 1;
   some : 1 ≤ l.breaks;
 }

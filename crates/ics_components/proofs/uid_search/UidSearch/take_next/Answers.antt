@@ -4,7 +4,7 @@ use Rattle.ics_text.specs.ContentLines.{content_of}
 use Rattle.ics_text.specs.ReadLines.{TakesRead}
 use Rattle.ics_text.specs.Unfolded.{Line}
 use Rattle.ics_components.specs.Inner.BareLines.{GoesBare, StepsBare}
-use Rattle.ics_components.specs.Inner.Known.{is_known}
+use Rattle.ics_components.specs.Known.{is_known}
 use Rattle.ics_components.specs.Inner.PartsPass.{here}
 use Rattle.ics_components.proofs.BareLines.{passed_bare, taken_bare}
 use Rattle.ics_components.proofs.uid_search.UidSearch.take_next.Goals as goal

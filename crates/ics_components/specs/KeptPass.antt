@@ -1,19 +1,18 @@
 -- The pass over the lines with the components that are open, where some texts are not kept.
-use Rattle.std.specs.Prelude.{◌≡◌, ℕ, List, [], ◌∷◌, Option, Some, None, Result, Ok, Err}
+use Rattle.std.specs.Prelude.{◌≡◌, ℕ, List, [], ◌∷◌, Option, Some, None, Result, Ok, Err, if◌then◌else◌}
 use Rattle.ics_text.specs.ContentLines.{Parts, content_of}
-use Rattle.ics_text.specs.Unfolded.{Line}
+use Rattle.ics_text.specs.Unfolded.{Line, begins_with_fold, unfolded}
 use Rattle.ics_values.specs.KeptTexts.{KeptTexts}
 use Rattle.ics_components.specs.declared.fault.Fault.{Fault}
 use Rattle.ics_components.specs.declared.fault.FaultKind.TheVariants as kind
 use Rattle.ics_components.specs.declared.first_round.FirstRound.{FirstRound}
 use Rattle.ics_components.specs.declared.frame.Frame.{Frame}
-use Rattle.ics_components.specs.declared.refused.Refused.{Refused}
-use Rattle.ics_components.specs.declared.refused.Refused.TheVariants as refused
-use Rattle.ics_components.specs.Inner.Known.{read_name}
+use Rattle.ics_components.specs.FirstFault.{bad_fold}
+use Rattle.ics_components.specs.Known.{read_name}
 use Rattle.ics_components.specs.Lines.{fault_on, behind, passing}
 use Rattle.ics_components.specs.ParsedFileSeen.{ParsedFileSeen}
-use Rattle.ics_components.specs.ParsedFiles.{and_line}
-use Rattle.ics_components.specs.Pass.{at_end, on_line, unless}
+use Rattle.ics_components.specs.ParsedFiles.{and_line, nothing_parsed}
+use Rattle.ics_components.specs.Pass.{at_end, bottom, on_line, unless}
 
 -- A line whose text is not kept is passed as one whose property is not read.
 abbrev pub on_kept : KeptTexts → ℕ → Option Parts → List Frame → ParsedFileSeen → (List Frame → ParsedFileSeen → Result ParsedFileSeen Fault) →
@@ -32,9 +31,6 @@ kept_pass keep frames last had (line ∷ lines) =
 abbrev pub pass_on : KeptTexts → FirstRound → List Line → Result ParsedFileSeen Fault
 pass_on keep round lines = kept_pass keep round.stack round.last round.parsed lines
 
--- ONE LINE: the pass goes on behind it, or its fault is the answer.
-abbrev pub GoesBehind : KeptTexts → Result Unit Refused → Line → FirstRound → FirstRound → Type 0
-GoesBehind keep (Ok taken) line round behind = (lines : List Line) → pass_on keep round (line ∷ lines) ≡ pass_on keep behind lines
-GoesBehind keep (Err refused.Memory) line round behind = Unit {0}
-GoesBehind keep (Err (refused.Fault kind)) line round behind = (lines : List Line) →
-    pass_on keep round (line ∷ lines) ≡ Err (record { line = line.number; kind = kind })
+-- What the first round gathers of a file where these texts are kept, or its first fault.
+abbrev pub kept_of : KeptTexts → List ℕ → Result ParsedFileSeen Fault
+kept_of keep file = if begins_with_fold file then Err bad_fold else kept_pass keep (bottom ∷ []) None nothing_parsed (unfolded file)
