@@ -1,4 +1,5 @@
 pub mod Cuts
+pub mod LineEnds
 pub mod Apart
 pub mod Endings
 pub mod PartNumbers

@@ -32,6 +32,10 @@ equals = 61
 abbrev pub is_between : ℕ → ℕ → ℕ → Bool
 is_between low high b = nat_le low b && nat_le b high
 
+-- the byte ends no line
+abbrev pub in_line : ℕ → Bool
+in_line b = not (b == lf)
+
 abbrev pub is_blank : ℕ → Bool
 is_blank b = b == space || b == htab
 

@@ -1,6 +1,9 @@
 ghost use Rattle.std.specs.Prelude.{◌≡◌, ◌≤◌, drop, length};
 ghost use Rattle.std.specs.List.{prefix_len};
-ghost use Rattle.ics_text.specs.Bytes.{is_blank, is_name_byte, is_quoted_byte, is_plain_byte};
+ghost use Rattle.ics_text.specs.Bytes.{in_line, is_blank, is_name_byte, is_quoted_byte, is_plain_byte};
+
+/// The byte that ends a line.
+pub const LF: u8 = b'\n';
 
 pub const QUOTE: u8 = b'"';
 
@@ -53,7 +56,7 @@ pub fn is_plain_byte(b: u8) -> bool
 }
 
 /// A set of bytes.
-trait ByteSet {
+pub trait ByteSet {
     ghost use Rattle.std.specs.Prelude.{ℕ, Bool};
 
     /// Whether the byte is in the set.
@@ -62,6 +65,17 @@ trait ByteSet {
     /// Whether the byte is in the set.
     fn has(&self, b: u8) -> bool
         ensures { result ≡ has self.now b };
+}
+
+/// The bytes of a line: all but LF.
+pub struct LineBytes;
+
+impl ByteSet for LineBytes {
+    ghost has = { λ _ b. in_line b };
+
+    fn has(&self, b: u8) -> bool {
+        b != LF
+    }
 }
 
 /// The bytes that are allowed in a name.
@@ -136,7 +150,7 @@ fn run_len<S: ByteSet>(set: &S, text: &[u8]) -> usize
 
 /// The same, byte by byte.
 #[inline(always)]
-fn looped_len<S: ByteSet>(set: &S, text: &[u8]) -> usize
+pub fn looped_len<S: ByteSet>(set: &S, text: &[u8]) -> usize
     ensures value { result ≡ prefix_len (S.has set.now) text.now }
     ensures within { result ≤ length text.now }
 {

@@ -2,8 +2,7 @@
 ghost use Rattle.std.specs.Prelude.{◌≡◌, ◌++◌, true, IfSome};
 ghost use Rattle.ics_text.specs.Cuts.{IsCut, begins_line, ends_line};
 
-use crate::bytes::is_blank;
-use crate::physical::LF;
+use crate::bytes::{LF, is_blank};
 use bstr::ByteSlice;
 
 /// Whether the bytes begin a line: they have a first byte, and it continues no line.

@@ -7,6 +7,7 @@ mod cutting;
 mod fault;
 mod folds;
 mod laws;
+mod line_end;
 mod lines;
 mod logical;
 mod param;

@@ -5,10 +5,7 @@ ghost use Rattle.ics_text.specs.Unfolded.{physical_lines, without_mark};
 ghost use Rattle.ics_text.specs.Inner.Reading.{physical_behind, without_cr};
 
 use crate::bytes::is_blank;
-use bstr::ByteSlice;
-
-/// The byte that ends a line.
-pub const LF: u8 = b'\n';
+use crate::line_end::line_len;
 
 const CR: &[u8] = b"\r";
 
@@ -19,10 +16,11 @@ pub fn cut_line<'a>(bytes: &'a [u8]) -> (&'a [u8], Option<&'a [u8]>)
     ensures lines { physical_lines bytes.now ≡ result.0.now ∷ physical_behind (option_copied result.1) }
     ensures shorter { IfSome result.1 (λ behind. length behind.now < length bytes.now) }
 {
-    match bytes.find_byte(LF) {
-        None => (bytes, None),
-        Some(at) => (without_cr(&bytes[..at]), Some(&bytes[at + 1..])),
+    let len = line_len(bytes);
+    if len == bytes.len() {
+        return (bytes, None);
     }
+    (without_cr(&bytes[..len]), Some(&bytes[len + 1..]))
 }
 
 /// The bytes without one CR at their end.

@@ -1,18 +1,22 @@
-use Rattle.std.proofs.Common.{◌+◌, ◌∷◌, drop, get_or, sym, ap, ◌∙◌}
-use Rattle.ics_text.specs.Unfolded.{physical_lines}
-use Rattle.std.proofs.lemmas.Bool.{eqb-true}
+use Rattle.std.proofs.Common.{◌≡◌, ◌<◌, ℕ, List, ◌+◌, ◌∷◌, drop, length, sym, ap, ◌∙◌, arith}
 use Rattle.std.proofs.lemmas.List.{take_rest}
+use Rattle.ics_text.specs.Unfolded.{physical_lines}
 use Rattle.ics_text.proofs.Cuts.{whole, no_lf-from, cut_at}
+use Rattle.ics_text.proofs.LineEnds.{lf-there, none-before}
 use Rattle.ics_text.proofs.physical.cut_line.Goals as goal
 
-pub returns-in-None-clause-lines : goal.returns-in-None-clause-lines
-returns-in-None-clause-lines c = whole c.args.bytes.now (no_lf-from c.args.bytes.now c.in-None.ensures)
+pub returns-then-len-bytes-clause-lines : goal.returns-then-len-bytes-clause-lines
+returns-then-len-bytes-clause-lines c =
+    let bytes : List ℕ = c.args.bytes.now in
+    let full : c.line_len-len.result ≡ length bytes = omega (arith, c.if-len-bytes.true) in
+    whole bytes (no_lf-from bytes (λ k low within. none-before bytes c.line_len-len.result c.line_len-len.ensures.value k low (omega (arith, within, full))))
 
-pub returns-in-Some-clause-lines : goal.returns-in-Some-clause-lines
-returns-in-Some-clause-lines c =
-    let found = c.in-Some.ensures in
-    let at = c.in-Some.at in
-    let bs = c.args.bytes.now in
-    cut_at bs at found.0.high found.0.before (eqb-true (get_or bs at 0) 10 found.1)
-    ∙ ap (λ l. l ∷ physical_lines (drop (at + 1) bs)) (sym c.without_cr.ensures)
-    ∙ ap (λ r. c.without_cr.result.now ∷ physical_lines r) (sym (take_rest bs (at + 1)))
+pub returns-clause-lines : goal.returns-clause-lines
+returns-clause-lines c =
+    let bytes : List ℕ = c.args.bytes.now in
+    let len : ℕ = c.line_len-len.result in
+    let is = c.line_len-len.ensures.value in
+    let within : len < length bytes = omega (arith, c.line_len-len.ensures.within, c.if-len-bytes.false) in
+    cut_at bytes len within (none-before bytes len is) (lf-there bytes len is within)
+    ∙ ap (λ l. l ∷ physical_lines (drop (len + 1) bytes)) (sym c.without_cr.ensures)
+    ∙ ap (λ r. c.without_cr.result.now ∷ physical_lines r) (sym (take_rest bytes (len + 1)))
