@@ -1,13 +1,12 @@
 -- The first round over a file that is cut: what it says of the whole is what it says of the other bytes behind the first.
-use Rattle.std.proofs.Common.{◌≡◌, ℕ, ◌+◌, ◌≤◌, ◌<◌, ◌^◌, Bool, true, false, cond, List, [], ◌∷◌, ◌++◌, length, refl, sym, ap, ◌∙◌, append_assoc, append-nil, arith}
-use Rattle.std.proofs.Common.{Result, Ok, Err, IfOk, not, None, Some, subst, length-append}
-use Rattle.std.proofs.lemmas.Bool.{cond_both, false_from_ne_true, not-true}
+use Rattle.std.proofs.Common.{◌≡◌, ℕ, ◌+◌, Bool, true, false, cond, List, [], ◌∷◌, ◌++◌, refl, sym, ap, ◌∙◌, append_assoc, append-nil}
+use Rattle.std.proofs.Common.{Result, Ok, Err, IfOk, None, subst}
+use Rattle.std.proofs.lemmas.Bool.{cond_both, false_from_ne_true}
 use Rattle.ics_text.specs.Bytes.{begins, is_blank}
-use Rattle.ics_text.specs.Cuts.{IsCut, begins_line, ends_line}
-use Rattle.ics_text.specs.Parts.{Part, last_number, lines_left}
+use Rattle.ics_text.specs.Cuts.{ends_line}
+use Rattle.ics_text.specs.Parts.{Part, last_number}
 use Rattle.ics_text.specs.Unfolded.{Line, begins_with_fold, lines_from, unfolded, without_mark}
 use Rattle.ics_values.specs.KeptTexts.{KeptTexts}
-use Rattle.ics_components.specs.declared.fault.Fault.{Fault}
 use Rattle.ics_components.specs.declared.fault.FaultKind.{FaultKind}
 use Rattle.ics_components.specs.declared.fault.FileFault.{FileFault}
 use Rattle.ics_components.specs.declared.fault.FileFault.TheVariants as file_fault
@@ -16,10 +15,10 @@ use Rattle.ics_components.specs.declared.first_round.FirstRound.{FirstRound}
 use Rattle.ics_components.specs.declared.taken_lines.Place.{Place}
 use Rattle.ics_components.specs.declared.taken_lines.Place.TheVariants.{Start, Behind, At}
 use Rattle.ics_components.specs.declared.taken_lines.TakenLines.{TakenLines}
-use Rattle.ics_components.specs.FileReading.{HasRead, LastFits, says_at, says_then, says_with}
+use Rattle.ics_components.specs.FileReading.{HasRead, says_at, says_then}
 use Rattle.ics_components.specs.FirstFault.{bad_fold}
 use Rattle.ics_components.specs.Inner.GoingBehind.{GoesOver}
-use Rattle.ics_components.specs.Inner.TakenParts.{BeginsPart, SaysOver, held_by, part_at, says_of}
+use Rattle.ics_components.specs.Inner.TakenParts.{BeginsPart, SaysOver, part_at}
 use Rattle.ics_components.specs.Kept.{SaysKept}
 use Rattle.ics_components.specs.KeptPass.{kept_of, kept_pass, pass_on}
 use Rattle.ics_components.specs.ParsedFileSeen.{ParsedFileSeen}
@@ -96,8 +95,8 @@ parsed-sound file =
     cond_both (begins_with_fold file) (Err bad_fold) (pass (bottom ∷ []) None nothing_parsed (unfolded file)) (λ said. IfOk said IsSoundParsed) (λ fold. tt)
     (λ plain. sound-pass (unfolded file))
 
-pub kept-says : (keep : KeptTexts) (file : List ℕ) (result : Result ParsedFileSeen FileFault) → Says (λ (parsed : ParsedFileSeen). parsed) result (kept_of keep file) →
-    SaysKept keep result (parsed_of file) × IfOk result IsSoundParsed
+pub kept-says : (keep : KeptTexts) (file : List ℕ) (result : Result ParsedFileSeen FileFault) →
+    Says (λ (parsed : ParsedFileSeen). parsed) result (kept_of keep file) → SaysKept keep result (parsed_of file) × IfOk result IsSoundParsed
 kept-says keep file (Ok parsed) says =
     let whole = gathered-says keep parsed (parsed_of file) (sym (kept-as keep file) ∙ says) in
     (whole, rw whole.2 (sound-kept keep whole.0 (subst (λ said. IfOk said IsSoundParsed) whole.1 (parsed-sound file))))

@@ -3,7 +3,7 @@ use Rattle.std.proofs.Common.{◌≡◌, ℕ, Bool, true, false, cond, List, [],
 use Rattle.std.specs.Prelude.{None, Some}
 use Rattle.ics_text.specs.ContentLines.{Parts, content_of}
 use Rattle.ics_text.specs.Unfolded.{Line, begins_with_fold, unfolded}
-use Rattle.ics_values.specs.KeptTexts.{KeptTexts, all_texts}
+use Rattle.ics_values.specs.KeptTexts.{KeptTexts}
 use Rattle.ics_components.specs.declared.fault.Fault.{Fault}
 use Rattle.ics_components.specs.declared.first_round.FirstRound.{FirstRound}
 use Rattle.ics_components.specs.declared.name.Name.{Name}

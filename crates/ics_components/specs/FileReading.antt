@@ -1,5 +1,5 @@
 -- HOW FAR A FILE IS READ that comes in pieces: what is gathered of the bytes that have come, and of those that follow, is what is gathered of the whole.
-use Rattle.std.specs.Prelude.{◌≡◌, ℕ, zero, ◌+◌, ◌<◌, ◌≤◌, ◌^◌, List, [], ◌++◌, length, Result, Err, IfSome, if◌then◌else◌}
+use Rattle.std.specs.Prelude.{◌≡◌, ℕ, ◌+◌, ◌<◌, ◌≤◌, ◌^◌, List, [], ◌++◌, length, Result, Err, IfSome, if◌then◌else◌}
 use Rattle.ics_text.specs.Unfolded.{Line, begins_with_fold, lines_from, unfolded}
 use Rattle.ics_values.specs.KeptTexts.{KeptTexts}
 use Rattle.ics_components.specs.declared.fault.Fault.{Fault}
@@ -30,16 +30,13 @@ abbrev pub breaks_at : Place → ℕ
 breaks_at (Behind breaks) = breaks
 breaks_at other = 0
 
--- The numbers of the lines fit, where so many bytes follow. Behind a fault no line is numbered.
+-- The number of the line behind the last one fits. Behind a fault no line is numbered.
 abbrev pub LastFits : Place → FirstRound → Type 0
 LastFits (At fault) round = Unit {0}
 LastFits other round = IfSome round.last (λ n. n + 1 < 2 ^ 64)
 
-pub record HasRoom (taken : TakenLines) (len : ℕ) : Type 0 where
-  pub bytes : breaks_at taken.place + len ≤ 16_777_216
-  pub last : LastFits taken.place taken.round
-
--- THE READER keeps these texts and has read these bytes of a file.
+-- THE READER keeps these texts and has read these bytes of a file, 16,777,216 at most: what the first round says of them and of any that follow is what it
+-- says of the latter from where it stands.
 pub record HasRead (keep : KeptTexts) (bytes : List ℕ) (reader : FileReader) : Type 0 where
   pub says : (more : List ℕ) → kept_of keep (bytes ++ more) ≡ says_then reader.taken (reader.carry.items ++ more)
   pub held : breaks_at reader.taken.place + length reader.carry.items ≤ length bytes

@@ -1,5 +1,5 @@
 -- The pass over the lines with the components that are open, where some texts are not kept.
-use Rattle.std.specs.Prelude.{◌≡◌, ℕ, List, [], ◌∷◌, Option, Some, None, Result, Ok, Err, if◌then◌else◌}
+use Rattle.std.specs.Prelude.{ℕ, List, [], ◌∷◌, Option, Some, None, Result, Err, if◌then◌else◌}
 use Rattle.ics_text.specs.ContentLines.{Parts, content_of}
 use Rattle.ics_text.specs.Unfolded.{Line, begins_with_fold, unfolded}
 use Rattle.ics_values.specs.KeptTexts.{KeptTexts}

@@ -2,8 +2,8 @@
 ghost use Rattle.std.specs.Prelude.{◌≡◌, ℕ, List, [], ◌+◌, ◌≤◌, ◌++◌, length, IfOk};
 ghost use Rattle.std.specs.Option.{option_copied};
 ghost use Rattle.ics_values.specs.KeptTexts.{KeptTexts};
-ghost use Rattle.ics_components.specs.FileReading.{HasRead, HasRoom, LastFits};
-ghost use Rattle.ics_components.specs.Inner.TakenParts.{EndsLine, held_by, says_of};
+ghost use Rattle.ics_components.specs.FileReading.{HasRead, LastFits};
+ghost use Rattle.ics_components.specs.Inner.TakenParts.{EndsLine, HasRoom, held_by, says_of};
 ghost use Rattle.ics_components.specs.Kept.{SaysKept};
 ghost use Rattle.ics_components.specs.ParsedFiles.{IsSoundParsed};
 ghost use Rattle.ics_components.specs.Pass.{parsed_of};

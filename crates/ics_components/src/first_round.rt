@@ -9,12 +9,11 @@ ghost use Rattle.ics_components.specs.Fronts.{IsFirstRead};
 ghost use Rattle.ics_components.specs.Inner.FrontedRound.{IsReadTo};
 ghost use Rattle.ics_components.specs.Inner.GoingBehind.{GoesBehind, GoesOver};
 ghost use Rattle.ics_components.specs.Known.{is_kept};
-ghost use Rattle.ics_components.specs.Kept.{SaysKept};
 ghost use Rattle.ics_components.specs.KeptPass.{pass_on};
 ghost use Rattle.ics_components.specs.PlacedLines.{Open, placed_from};
-ghost use Rattle.ics_components.specs.Pass.{at_end, bottom, parsed_of, unless, Says};
+ghost use Rattle.ics_components.specs.Pass.{at_end, bottom, unless, Says};
 ghost use Rattle.ics_components.specs.Inner.Passing.{GoesOn, ReadsOn};
-ghost use Rattle.ics_components.specs.ParsedFiles.{IsSoundParsed, nothing_parsed};
+ghost use Rattle.ics_components.specs.ParsedFiles.{nothing_parsed};
 
 use crate::fault::{Fault, FaultKind, FileFault};
 use crate::front::Front;
@@ -140,12 +139,7 @@ impl FirstRound {
     }
 
     /// Takes the lines of a whole file up to the first that has a fault. The fault that it answers may stand where they end.
-    fn read(
-        &mut self,
-        alloc: Global,
-        keep: KeptTexts,
-        part: PartLines<'_>,
-    ) -> Result<(), FileFault>
+    fn read(&mut self, alloc: Global, keep: KeptTexts, part: PartLines<'_>) -> Result<(), FileFault>
         requires lines { (n : ℕ) × (n + 1 < 2 ^ 64) × Within n (lines_left part) }
         requires last { IfSome self.old.last (λ n. n + 1 < 2 ^ 64) }
         ensures says { Says (λ _. self.new.parsed) result (pass_on keep self.old (lines_left part.entry)) }
@@ -195,27 +189,5 @@ pub fn read_first(alloc: Global, keep: KeptTexts, bytes: &[u8]) -> Result<FirstR
             let front = Front::of(round.into_parsed());
             Ok(FirstRead::Faulty(Fault { line, kind }, front))
         }
-    }
-}
-
-/// What the first round gathers of a file of at most 16,777,216 bytes, or the first fault of that round (RFC 5545, sections 3.4 and 3.6).
-///
-/// The fault is the one on the least line and, if that has several, of the least kind; the faults of zones and of instants are left to the deferred
-/// checks. What is gathered is sound: its stamps are in the years 0001 to 9899, each of its time zones has an observance, no rule of which is finer than
-/// daily, and a check is deferred for each time zone that a stamp of an event names. Of the texts of events those are kept that `keep` names. `Memory` if
-/// an allocation fails.
-#[inline(never)]
-pub fn parse_file(alloc: Global, keep: KeptTexts, bytes: &[u8]) -> Result<ParsedFile, FileFault>
-    requires { length bytes.now ≤ 16_777_216 }
-    ensures parsed { SaysKept keep result (parsed_of bytes.now) }
-    ensures sound { IfOk result IsSoundParsed }
-{
-    match read_first(alloc, keep, bytes) {
-        Ok(FirstRead::Whole(parsed)) => Ok(parsed),
-        Ok(FirstRead::Faulty(Fault { line, kind }, front)) => {
-            drop(front);
-            Err(FileFault::At { line, kind })
-        }
-        Err(_) => Err(FileFault::Memory),
     }
 }

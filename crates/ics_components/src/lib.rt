@@ -41,7 +41,7 @@ pub use ends::is_out;
 pub use event_fields::EventFields;
 pub use fault::{Fault, FaultKind, FileFault};
 pub use file_reader::FileReader;
-pub use first_round::{FirstRead, parse_file, read_first};
+pub use first_round::{FirstRead, read_first};
 pub use front::Front;
 pub use fronted_round::parse_parts_behind;
 pub use listed::Listed;

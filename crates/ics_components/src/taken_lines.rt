@@ -4,8 +4,8 @@ ghost use Rattle.ics_text.specs.Bytes.{begins, is_blank};
 ghost use Rattle.ics_text.specs.Cuts.{ends_line};
 ghost use Rattle.ics_components.specs.declared.fault.Fault.{Fault};
 ghost use Rattle.ics_components.specs.declared.taken_lines.Place.TheVariants.{Start, At};
-ghost use Rattle.ics_components.specs.FileReading.{HasRoom, LastFits, breaks_at, says_then};
-ghost use Rattle.ics_components.specs.Inner.TakenParts.{BeginsPart, SaysOver};
+ghost use Rattle.ics_components.specs.FileReading.{LastFits, breaks_at, says_then};
+ghost use Rattle.ics_components.specs.Inner.TakenParts.{BeginsPart, HasRoom, SaysOver};
 ghost use Rattle.ics_components.specs.KeptPass.{kept_of};
 ghost use Rattle.ics_components.specs.Pass.{Says};
 

@@ -1,12 +1,11 @@
 -- Bytes that are cut behind a line end: the lines of the whole are those of both parts.
-use Rattle.std.proofs.Common.{◌≡◌, ℕ, ◌+◌, ◌<◌, Bool, true, false, ◌==◌, ◌&&◌, List, [], ◌∷◌, ◌++◌, length, drop, refl, sym, ap, ◌∙◌, arith, cond}
-use Rattle.std.proofs.Common.{append_assoc, append-nil, filter, inl, inr, if◌then◌else◌}
+use Rattle.std.proofs.Common.{◌≡◌, ℕ, ◌+◌, ◌<◌, Bool, true, false, ◌==◌, ◌&&◌, List, [], ◌∷◌, ◌++◌, length, refl, sym, ap, ◌∙◌, arith}
+use Rattle.std.proofs.Common.{append-nil, filter, inl, inr, if◌then◌else◌}
 use Rattle.std.proofs.lemmas.Bool.{cases_Bool, eqb-true}
-use Rattle.std.proofs.lemmas.Bool.Decides.{eqb_tells}
 use Rattle.std.proofs.lemmas.List.Elements.{filter-append}
 use Rattle.ics_text.specs.Bytes.{begins, cr, is_blank, lf}
 use Rattle.ics_text.specs.Cuts.{ends_line}
-use Rattle.ics_text.specs.Parts.{Part, last_number}
+use Rattle.ics_text.specs.Parts.{last_number}
 use Rattle.ics_text.specs.Unfolded.{Line, attach, begins_with_fold, goes_on, is_line, joined, lines_from, numbered, onto_first, physical_lines, unfolded}
 use Rattle.ics_text.specs.Unfolded.{without_mark}
 use Rattle.ics_text.proofs.Joins.{goes_on-physical}

@@ -1,11 +1,10 @@
 -- The bytes before the first LF.
-use Rattle.std.proofs.Common.{◌≡◌, ◌≢◌, ℕ, zero, suc, ◌+◌, ◌<◌, ◌≤◌, Bool, true, false, ◌==◌, List, [], ◌∷◌, length, map, take, drop, get_or, sym, ◌∙◌, arith}
+use Rattle.std.proofs.Common.{◌≡◌, ◌≢◌, ℕ, zero, suc, ◌+◌, ◌<◌, ◌≤◌, Bool, true, false, ◌==◌, List, [], ◌∷◌, length, take, drop, get_or, sym, ◌∙◌, arith}
 use Rattle.std.proofs.Common.{inl, inr, not}
 use Rattle.std.specs.List.{prefix_len}
-use Rattle.std.specs.Simd.Lanes.{mask_l}
 use Rattle.std.proofs.lemmas.Bool.{cases_Bool, eqb-true, false≢true, not-false, not-true}
 use Rattle.std.proofs.lemmas.List.Sums.{prefix_len_passes, prefix_len_stops}
-use Rattle.ics_text.specs.Bytes.{in_line, lf}
+use Rattle.ics_text.specs.Bytes.{in_line}
 
 -- where the first n elements pass the test, and where they do not
 pub goes_past : {X : Type 0} (p : X → Bool) (n : ℕ) (ys : List X) → n ≤ length ys → prefix_len p (take n ys) ≡ n →

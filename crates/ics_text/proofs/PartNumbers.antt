@@ -1,5 +1,5 @@
 -- The numbers of the lines of a part of a file.
-use Rattle.std.proofs.Common.{◌≡◌, ℕ, ◌+◌, ◌≤◌, Bool, true, false, List, [], ◌∷◌, length, arith, cond, filter, inl, inr}
+use Rattle.std.proofs.Common.{ℕ, ◌+◌, ◌≤◌, Bool, true, false, List, [], ◌∷◌, length, arith, cond, filter, inl, inr}
 use Rattle.std.proofs.lemmas.Bool.{cases_Bool}
 use Rattle.ics_text.specs.Parts.{Part, last_number, lines_left}
 use Rattle.ics_text.specs.Unfolded.{Line, Within, attach, goes_on, is_line, joined, numbered, physical_lines}

@@ -1,5 +1,5 @@
 //! Where a file may be cut so that no line of it stands on both sides.
-ghost use Rattle.std.specs.Prelude.{◌≡◌, ◌++◌, true, IfSome};
+ghost use Rattle.std.specs.Prelude.{◌≡◌, ◌++◌, IfSome};
 ghost use Rattle.ics_text.specs.Cuts.{IsCut, begins_line, ends_line};
 
 use crate::bytes::{LF, is_blank};

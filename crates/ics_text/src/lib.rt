@@ -23,7 +23,7 @@ pub use cutting::{first_cut, last_cut};
 pub use fault::{BadFold, BadLine};
 pub use laws::{
     content_by_grammar, lines_apart, numbers_rise, numbers_within, param_by_grammar,
-    part_numbers_within, params_read_once, unfolded_apart, unfolding_undoes_folding,
+    params_read_once, part_numbers_within, unfolded_apart, unfolding_undoes_folding,
 };
 pub use lines::Lines;
 pub use logical::Logical;

@@ -7,13 +7,17 @@ use Rattle.ics_components.specs.declared.fault.FileFault.{FileFault}
 use Rattle.ics_components.specs.declared.fault.FileFault.TheVariants.{Memory}
 use Rattle.ics_components.specs.declared.fault.FileFault.TheVariants as file_fault
 use Rattle.ics_components.specs.declared.file_reader.FileReader.{FileReader}
-use Rattle.ics_components.specs.declared.first_round.FirstRound.{FirstRound}
 use Rattle.ics_components.specs.declared.taken_lines.Place.{Place}
 use Rattle.ics_components.specs.declared.taken_lines.Place.TheVariants.{Start, Behind, At}
 use Rattle.ics_components.specs.declared.taken_lines.TakenLines.{TakenLines}
-use Rattle.ics_components.specs.FileReading.{breaks_at, says_then, says_with}
+use Rattle.ics_components.specs.FileReading.{LastFits, breaks_at, says_then, says_with}
 use Rattle.ics_components.specs.KeptPass.{pass_on}
 use Rattle.ics_components.specs.ParsedFileSeen.{ParsedFileSeen}
+
+-- The numbers of the lines fit, where so many bytes follow.
+pub record HasRoom (taken : TakenLines) (len : ℕ) : Type 0 where
+  pub bytes : breaks_at taken.place + len ≤ 16_777_216
+  pub last : LastFits taken.place taken.round
 
 -- the next bytes at a place where no fault is found yet
 abbrev pub part_at : Place → List ℕ → Part

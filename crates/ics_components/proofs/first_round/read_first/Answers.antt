@@ -1,4 +1,4 @@
-use Rattle.std.proofs.Common.{◌≡◌, List, [], ◌+◌, true, length, arith, rules, ap, subst}
+use Rattle.std.proofs.Common.{◌≡◌, [], ◌+◌, true, length, arith, rules, ap, subst}
 use Rattle.std.proofs.lemmas.Bool.{false≢true}
 use Rattle.ics_text.specs.Parts.{Part, lines_left}
 use Rattle.ics_text.specs.Unfolded.{begins_with_fold, unfolded}

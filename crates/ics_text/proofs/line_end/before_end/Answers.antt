@@ -1,4 +1,4 @@
-use Rattle.std.proofs.Common.{◌≡◌, ◌==◌, arith, take, drop, sym, ◌∙◌, ap, length, ℕ, List}
+use Rattle.std.proofs.Common.{◌≡◌, ◌==◌, arith, take, drop, sym, ◌∙◌, length, ℕ, List}
 use Rattle.std.proofs.lemmas.Simd.{leading_from_mask_l, length-chunk, trailing_mask_l}
 use Rattle.ics_text.proofs.line_end.before_end.Goals as goal
 

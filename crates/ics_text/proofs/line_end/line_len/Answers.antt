@@ -1,4 +1,4 @@
-use Rattle.std.proofs.Common.{◌≡◌, ◌+◌, ◌≤◌, List, ℕ, arith, ap, sym, drop, take, length, length-drop, ◌∙◌}
+use Rattle.std.proofs.Common.{◌≡◌, ◌+◌, ◌≤◌, List, ℕ, arith, ap, drop, take, length, length-drop, ◌∙◌}
 use Rattle.std.specs.List.{prefix_len}
 use Rattle.std.proofs.lemmas.List.{drop-drop}
 use Rattle.std.proofs.lemmas.List.Sums.{prefix_len-le-length}
@@ -25,5 +25,6 @@ loop-at-preserved c =
     let few = prefix_len-le-length in_line (take 32 rest) in
     let all : prefix_len in_line (take 32 rest) ≡ 32 = omega (arith, c.before_end-len.ensures, few, length-chunk at 32 bytes room) in
     let past = goes_past in_line 32 rest (omega (arith, length-drop at bytes, room)) all in
-    let on : prefix_len in_line (drop 32 rest) ≡ prefix_len in_line (drop (at + 32) bytes) = ap (prefix_len in_line) (drop-drop 32 at bytes ∙ ap (λ n. drop n bytes) (omega arith)) in
+    let on : prefix_len in_line (drop 32 rest) ≡ prefix_len in_line (drop (at + 32) bytes) =
+    ap (prefix_len in_line) (drop-drop 32 at bytes ∙ ap (λ n. drop n bytes) (omega arith)) in
     record { passed = omega (arith, c.loop-at.invariant.passed, past, on); within = room }

@@ -2,7 +2,6 @@ use Rattle.std.proofs.Common.{List, ◌∷◌, ◌++◌, arith, rules, refl, Err
 use Rattle.ics_text.specs.Parts.{lines_left}
 use Rattle.ics_text.specs.Unfolded.{Line, Within}
 use Rattle.ics_components.specs.KeptPass.{pass_on}
-use Rattle.ics_components.specs.PlacedLines.{placed_from}
 use Rattle.ics_components.proofs.ReadTo.{HasRead, begun, one-further, read-of}
 use Rattle.ics_components.proofs.first_round.FirstRound.lines.Goals as goal
 

@@ -1,4 +1,4 @@
-use Rattle.std.proofs.Common.{ℕ, ◌+◌, length, arith}
+use Rattle.std.proofs.Common.{◌+◌, length, arith}
 use Rattle.ics_components.proofs.taken_lines.TakenLines.lines.Goals as goal
 
 pub lines-requires-clause-lines : goal.lines-requires-clause-lines
