@@ -1,9 +1,9 @@
 //! Where a file may be cut so that no line of it stands on both sides.
-ghost use Rattle.std.specs.Prelude.{◌≡◌, ◌++◌, IfSome};
+ghost use Rattle.std.specs.Prelude.{◌≡◌, ◌+◌, ◌≤◌, ◌++◌, length, IfSome};
 ghost use Rattle.ics_text.specs.Cuts.{IsCut, begins_line, ends_line};
 
 use crate::bytes::{LF, is_blank};
-use bstr::ByteSlice;
+use std::simd::prelude::*;
 
 /// Whether the bytes begin a line: they have a first byte, and it continues no line.
 fn begins_line(bytes: &[u8]) -> bool
@@ -25,18 +25,51 @@ fn ends_line(bytes: &[u8]) -> bool
     }
 }
 
+/// The bytes on both sides of a place, if the file may be cut there.
+fn cut_there(bytes: &[u8], place: usize) -> Option<(&[u8], &[u8])>
+    ensures whole { IfSome result (λ parts. bytes.now ≡ parts.0.now ++ parts.1.now) }
+    ensures cut { IfSome result (λ parts. IsCut parts.0.now parts.1.now) }
+{
+    if place > bytes.len() {
+        return None;
+    }
+    let (head, rest) = bytes.split_at(place);
+    if ends_line(head) && begins_line(rest) {
+        return Some((head, rest));
+    }
+    None
+}
+
+/// A bit for each of the 32 bytes from there on, which is set where the file may be cut behind the byte. It only tells where to look: each place is tested.
+#[inline(always)]
+fn marks(bytes: &[u8], at: usize) -> u64
+    requires { at + 33 ≤ length bytes.now }
+{
+    let next = u8x32::from_slice(&bytes[at + 1..]);
+    let begins = next.simd_ne(u8x32::splat(b' ')) & next.simd_ne(u8x32::splat(b'\t'));
+    let ends = u8x32::from_slice(&bytes[at..]).simd_eq(u8x32::splat(LF));
+    (ends & begins).to_bitmask()
+}
+
 /// The bytes up to the last place where they may be cut, and those behind it. None if there is no such place.
 pub fn last_cut(bytes: &[u8]) -> Option<(&[u8], &[u8])>
     ensures whole { IfSome result (λ parts. bytes.now ≡ parts.0.now ++ parts.1.now) }
     ensures cut { IfSome result (λ parts. IsCut parts.0.now parts.1.now) }
 {
     let mut end = bytes.len();
-    while let Some(at) = (&bytes[..end]).rfind_byte(LF) {
-        let (head, rest) = bytes.split_at(at + 1);
-        if begins_line(rest) {
-            return Some((head, rest));
+    'runs: while end >= 33 {
+        let at = end - 33;
+        let marks = marks(bytes, at);
+        if marks != 0 {
+            return cut_there(bytes, at + 1 + marks.ilog2() as usize);
         }
-        end = at;
+        end -= 32;
+    }
+    'places: while end > 1 {
+        end -= 1;
+        if let Some(parts) = cut_there(bytes, end) {
+            return Some(parts);
+        }
     }
     None
 }
@@ -50,12 +83,18 @@ pub fn first_cut<'a>(before: &[u8], piece: &'a [u8]) -> Option<(&'a [u8], &'a [u
     if ends_line(before) && begins_line(piece) {
         return Some(piece.split_at(0));
     }
-    let mut from = 0;
-    while let Some(at) = (&piece[from..]).find_byte(LF) {
-        from += at + 1;
-        let (head, rest) = piece.split_at(from);
-        if begins_line(rest) {
-            return Some((head, rest));
+    let mut at = 0;
+    'runs: while piece.len() - at >= 33 {
+        let marks = marks(piece, at);
+        if marks != 0 {
+            return cut_there(piece, at + 1 + marks.trailing_zeros() as usize);
+        }
+        at += 32;
+    }
+    'places: while at < piece.len() {
+        at += 1;
+        if let Some(parts) = cut_there(piece, at) {
+            return Some(parts);
         }
     }
     None

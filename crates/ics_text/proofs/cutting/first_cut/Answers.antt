@@ -1,13 +1,15 @@
-use Rattle.std.proofs.Common.{sym, ◌∙◌}
-use Rattle.std.proofs.lemmas.List.{take_rest}
-use Rattle.ics_text.proofs.Endings.{ends-behind, ends-in-rest}
+use Rattle.std.proofs.Common.{List, ℕ, ◌++◌, Option, Some, None, Bor, IfSome}
+use Rattle.ics_text.specs.Cuts.{IsCut}
+use Rattle.ics_text.proofs.Endings.{cut-behind}
 use Rattle.ics_text.proofs.cutting.first_cut.Goals as goal
 
-pub returns-then-begins_line-2-clause-cut : goal.returns-then-begins_line-2-clause-cut
-returns-then-begins_line-2-clause-cut c =
-    let found = rw (take_rest c.args.piece.now c.loop-at.from) at c.in-Some.ensures in
-    let head = c.split_at-in-Some.ensures.front in
-    record {
-      ends = rw head (ends-behind c.args.before.now _ (ends-in-rest c.args.piece.now c.loop-at.from c.in-Some.at found.0.high found.1));
-      begins = sym c.begins_line-in-Some.ensures ∙ c.if-begins_line-2.true;
-    }
+behind : (before : List ℕ) (result : Option (Bor (List ℕ) × Bor (List ℕ))) → IfSome result (λ parts. IsCut parts.0.now parts.1.now) →
+    IfSome result (λ parts. IsCut (before ++ parts.0.now) parts.1.now)
+behind before None cut = tt
+behind before (Some parts) cut = cut-behind before parts.0.now parts.1.now cut
+
+pub returns-then-marks-ne0-clause-cut : goal.returns-then-marks-ne0-clause-cut
+returns-then-marks-ne0-clause-cut c = behind c.args.before.now c.cut_there.result c.cut_there.ensures.cut
+
+pub returns-in-Some-clause-cut : goal.returns-in-Some-clause-cut
+returns-in-Some-clause-cut c = cut-behind c.args.before.now c.in-Some.parts.0.now c.in-Some.parts.1.now c.in-Some.ensures.cut

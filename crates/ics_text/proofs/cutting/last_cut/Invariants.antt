@@ -1,8 +1,14 @@
 use Rattle.std.proofs.Common.{◌≤◌, length}
 use Rattle.ics_text.proofs.cutting.last_cut.Given as goal
 
-abbrev pub invariant-loop-at : goal.invariant-loop-at
-invariant-loop-at l = record { within : l.end ≤ length l.bytes }
+abbrev pub invariant-runs : goal.invariant-runs
+invariant-runs l = record { within : l.end ≤ length l.bytes }
 
-abbrev pub decreases-loop-at : goal.decreases-loop-at
-decreases-loop-at l = l.end
+abbrev pub decreases-runs : goal.decreases-runs
+decreases-runs l = l.end
+
+abbrev pub invariant-places : goal.invariant-places
+invariant-places l = record { within : l.end ≤ length l.bytes }
+
+abbrev pub decreases-places : goal.decreases-places
+decreases-places l = l.end
