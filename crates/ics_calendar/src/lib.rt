@@ -21,7 +21,7 @@ mod zone_files;
 mod zone_table;
 
 pub use given_file::GivenFile;
-pub use ics_components::{Fault, FaultKind, FileFault};
+pub use ics_components::{Fault, FaultKind, FileFault, FileReader};
 pub use ics_event::{Event, Length, Rdate, Text, Time};
 pub use ics_file::FileEvents;
 pub use laws::{

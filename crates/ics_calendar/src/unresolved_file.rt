@@ -1,13 +1,15 @@
 //! Files in which the first round finds nothing.
-ghost use Rattle.std.specs.Prelude.{◌≡◌, ◌≤◌, ◌++◌, length, map, None, IfOk, IfErr, OnOk};
+ghost use Rattle.std.specs.Prelude.{◌≡◌, ◌≤◌, ◌++◌, ℕ, List, length, map, None, IfOk, IfErr, OnOk};
 ghost use Rattle.std.specs.List.{All, flat_map};
 ghost use Rattle.ics_calendar.specs.UnresolvedFiles.{unresolved_said, IsFaultOf};
 ghost use Rattle.ics_calendar.specs.Inner.PartialFiles.{IsReadOrFront};
 ghost use Rattle.ics_calendar.specs.Files.{unresolved_of, SaysFile};
 ghost use Rattle.ics_calendar.specs.Kept.{kept_unresolved};
+ghost use Rattle.ics_components.specs.FileReading.{HasRead};
 ghost use Rattle.ics_components.specs.FirstFault.{first_fault};
 ghost use Rattle.ics_components.specs.ParsedFiles.{IsSoundParsed};
 ghost use Rattle.ics_components.specs.PlacedLines.{placed};
+ghost use Rattle.ics_values.specs.KeptTexts.{KeptTexts};
 ghost use Rattle.ics_calendar.specs.Settled.{event_in, known_in, unresolved_by, IsReady};
 ghost use Rattle.ics_calendar.specs.ZoneTables.{given_by, known_by};
 
@@ -19,7 +21,7 @@ use crate::unknown_zones::{copied, unknown_names};
 use crate::zone_files::ZoneFiles;
 use crate::zone_table::ZoneTable;
 use ics_components::{
-    CalendarEvent, Fault, FileFault, FirstRead, Front, LineCheck, Tzid, parse_file, read_first,
+    CalendarEvent, Fault, FileFault, FileReader, FirstRead, Front, LineCheck, Tzid, read_first,
 };
 use ics_event::{Event, KeptTexts};
 use ics_file::FileEvents;
@@ -107,23 +109,26 @@ impl UnresolvedFile {
         ensures fault { IfErr result (IsFaultOf bytes.now) }
     {
         let mut shared = SharedZones::none(alloc);
-        UnresolvedFile::sharing(alloc, &mut shared, KeptTexts::all(), bytes)
+        let mut reader = FileReader::new(alloc, KeptTexts::all());
+        reader.add(alloc, bytes)?;
+        UnresolvedFile::of_reader(alloc, &mut shared, reader)
     }
 
-    /// The same. Time zones that are shared are not made again, and of the texts of events these alone are kept.
-    pub fn sharing(
+    /// The same of a file whose bytes a reader has read. Time zones that are shared are not made again, and of the texts of events those alone are kept that
+    /// the reader keeps.
+    pub fn of_reader(
         alloc: Global,
         shared: &mut SharedZones,
-        keep: KeptTexts,
-        bytes: &[u8],
+        reader: FileReader,
     ) -> Result<UnresolvedFile, FileFault>
-        requires { length bytes.now ≤ 16_777_216 }
-        ensures unresolved { IfOk result (λ unresolved. unresolved_said unresolved ≡ kept_unresolved keep (unresolved_of bytes.now)) }
-        ensures whole { OnOk result (first_fault (placed bytes.now) ≡ None) }
-        ensures fault { IfErr result (IsFaultOf bytes.now) }
+        requires { (keep : KeptTexts) × (bytes : List ℕ) × HasRead keep bytes reader }
+        ensures unresolved { (keep : KeptTexts) (bytes : List ℕ) → HasRead keep bytes reader
+            → IfOk result (λ unresolved. unresolved_said unresolved ≡ kept_unresolved keep (unresolved_of bytes)) }
+        ensures whole { (keep : KeptTexts) (bytes : List ℕ) → HasRead keep bytes reader → OnOk result (first_fault (placed bytes) ≡ None) }
+        ensures fault { (keep : KeptTexts) (bytes : List ℕ) → HasRead keep bytes reader → IfErr result (IsFaultOf bytes) }
     {
         numbers_rise();
-        let parsed = parse_file(alloc, keep, bytes)?;
+        let parsed = reader.finish(alloc)?;
         let lists = ParsedLists::whole(alloc, parsed)?;
         Ok(UnresolvedFile::of_parsed(alloc, shared, lists)?)
     }

@@ -23,8 +23,8 @@ pub use every_day::EveryDay;
 pub use ics_zone::Display;
 pub use khal_ports::{
     FolderSource, FolderZones, MOST_BYTES, MOST_ZONE_BYTES, MemoryFile, MemorySink, MemorySource,
-    MemoryZone, MemoryZones, NoZones, RunFault, Sink, SinkFault, Source, SourceFault, Stream,
-    ZoneSource, read_zone_file,
+    MemoryZone, MemoryZones, NoZones, Pieces, RunFault, Sink, SinkFault, Source, SourceFault,
+    Stream, ZoneSource, read_zone_file,
 };
 pub use khal_reading::{Status, without_zones};
 pub use khal_words::{

@@ -1,7 +1,7 @@
 //! Files in memory, of which one is not read.
 
 use crate::runs::run_over;
-use khal_list::{MOST_BYTES, MemoryFile, MemorySource, NoZones, Source, SourceFault};
+use khal_list::{MOST_BYTES, MemoryFile, MemorySource, NoZones, Pieces, Source, SourceFault};
 use std::alloc::Global;
 use std::io;
 
@@ -41,7 +41,12 @@ impl Source for Unread<'_> {
         self.files[index].name.as_str()
     }
 
-    fn read(&mut self, alloc: Global, index: usize) -> Result<Vec<u8>, SourceFault> {
+    fn read_into<P: Pieces>(
+        &mut self,
+        alloc: Global,
+        index: usize,
+        pieces: &mut P,
+    ) -> Result<(), SourceFault> {
         if index == self.index {
             self.failures = self.failures.saturating_add(1);
             return Err(SourceFault::Device);
@@ -50,7 +55,10 @@ impl Source for Unread<'_> {
         if bytes.len() > MOST_BYTES {
             return Err(SourceFault::TooLarge);
         }
-        Vec::from_slice(alloc, bytes).map_err(|_| SourceFault::Memory)
+        match pieces.add(alloc, bytes) {
+            Ok(()) => Ok(()),
+            Err(_) => Err(SourceFault::Memory),
+        }
     }
 
     fn failures(&self) -> u64 {

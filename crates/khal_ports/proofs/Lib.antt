@@ -1,1 +1,2 @@
+pub mod HandedOn
 pub mod Written

@@ -5,14 +5,13 @@ use std::fs::{self, File};
 use std::io::{self, ErrorKind, Read};
 use std::rt::Files;
 
-/// The path of the file with this name in a folder. Room is made for it once.
-fn path_of(alloc: Global, folder: &str, name: &str) -> Result<String, AllocError> {
-    let length = folder.len().saturating_add(name.len()).saturating_add(1);
-    let mut path = String::with_capacity(alloc, length)?;
+/// Writes the path of the file with this name in a folder. Room is made for it once.
+pub(crate) fn write_path(path: &mut String, folder: &str, name: &str) -> Result<(), AllocError> {
+    path.clear();
+    path.reserve(folder.len().saturating_add(name.len()).saturating_add(1))?;
     path.push_str(folder)?;
     path.push('/')?;
-    path.push_str(name)?;
-    Ok(path)
+    path.push_str(name)
 }
 
 /// The first bytes of the file with this name in a folder, at most `most`; None if the path leads nowhere or
@@ -24,9 +23,10 @@ pub(crate) fn read_front<R: Files>(
     name: &str,
     most: u64,
 ) -> Result<Option<Vec<u8>>, SourceFault> {
-    let Ok(path) = path_of(alloc, folder, name) else {
+    let mut path = String::new(alloc);
+    if write_path(&mut path, folder, name).is_err() {
         return Err(SourceFault::Memory);
-    };
+    }
     read_path(rt, alloc, path.as_str(), most)
 }
 
@@ -50,7 +50,7 @@ pub(crate) fn read_path<R: Files>(
 
 /// The length of the file with this path, or None if there is none. Anything else there is a fault, and is
 /// not opened: a pipe or a terminal would have to be waited for.
-fn length_of<R: Files>(rt: &R, path: &str) -> Result<Option<u64>, SourceFault> {
+pub(crate) fn length_of<R: Files>(rt: &R, path: &str) -> Result<Option<u64>, SourceFault> {
     match fs::metadata(rt, path) {
         Ok(found) if found.is_file() => Ok(Some(found.len())),
         Ok(_) => Err(SourceFault::Device),
@@ -83,7 +83,7 @@ fn read_into<R: Files>(
 }
 
 /// The fault that an error of the system is.
-fn fault_of(error: io::Error) -> SourceFault {
+pub(crate) fn fault_of(error: io::Error) -> SourceFault {
     if error.kind() == ErrorKind::OutOfMemory {
         return SourceFault::Memory;
     }

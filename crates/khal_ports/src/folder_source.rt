@@ -2,8 +2,9 @@
 ghost use Rattle.std.specs.Prelude.{◌≡◌, IfOk};
 
 use crate::fault::SourceFault;
-use crate::file_bytes::read_front;
-use crate::source::{MOST_BYTES, Source};
+use crate::file_pieces::FileRoom;
+use crate::pieces::Pieces;
+use crate::source::Source;
 use std::alloc::Global;
 use std::fs;
 use std::io::{self, ErrorKind};
@@ -23,6 +24,7 @@ pub struct FolderSource<R> {
     // how many of the names, from the first on, are those of files
     named: usize,
     failures: u64,
+    room: FileRoom,
 }
 
 /// Whether a file with that name is a calendar file.
@@ -68,6 +70,7 @@ impl<R: Files + AllocGlobal + Clone + Drop> FolderSource<R> {
     {
         let (mut names, unnamed) = list(&rt, path.as_str())?;
         let named = names.len();
+        let room = FileRoom::new(rt.alloc());
         for _ in 0..unnamed {
             add_name(rt.alloc(), &mut names, "?")?;
         }
@@ -77,6 +80,7 @@ impl<R: Files + AllocGlobal + Clone + Drop> FolderSource<R> {
             names,
             named,
             failures: 0,
+            room,
         })
     }
 }
@@ -98,25 +102,24 @@ impl<R: Files + AllocGlobal + Clone + Drop> Source for FolderSource<R> {
         self.names[index].as_str()
     }
 
-    fn read(&mut self, alloc: Global, index: usize) -> Result<Vec<u8>, SourceFault> {
+    fn read_into<P: Pieces>(
+        &mut self,
+        alloc: Global,
+        index: usize,
+        pieces: &mut P,
+    ) -> Result<(), SourceFault> {
         if index >= self.named {
             self.failures = self.failures.saturating_add(1);
             return Err(SourceFault::Device);
         }
         let name = self.names[index].as_str();
-        let most = MOST_BYTES as u64 + 1;
-        match read_front(&self.rt, alloc, self.path.as_str(), name, most) {
-            Ok(Some(bytes)) => {
-                if bytes.len() > MOST_BYTES {
-                    return Err(SourceFault::TooLarge);
-                }
-                Ok(bytes)
-            }
-            Ok(None) | Err(SourceFault::Device) => {
+        let folder = self.path.as_str();
+        match self.room.read(&self.rt, alloc, folder, name, pieces) {
+            Err(SourceFault::Device) => {
                 self.failures = self.failures.saturating_add(1);
                 Err(SourceFault::Device)
             }
-            Err(fault) => Err(fault),
+            answer => answer,
         }
     }
 

@@ -3,12 +3,14 @@
 
 mod fault;
 mod file_bytes;
+mod file_pieces;
 mod folder_source;
 mod folder_zones;
 mod memory_sink;
 mod memory_source;
 mod memory_zones;
 mod no_zones;
+mod pieces;
 mod sink;
 mod source;
 mod stream;
@@ -22,6 +24,7 @@ pub use memory_sink::MemorySink;
 pub use memory_source::{MemoryFile, MemorySource};
 pub use memory_zones::{MemoryZone, MemoryZones};
 pub use no_zones::NoZones;
+pub use pieces::Pieces;
 pub use sink::{Sink, flush_all, put_all};
 pub use source::{MOST_BYTES, Source};
 pub use stream::Stream;

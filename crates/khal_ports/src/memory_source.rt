@@ -2,6 +2,7 @@
 ghost use Rattle.std.specs.Prelude.{◌≡◌};
 
 use crate::fault::SourceFault;
+use crate::pieces::Pieces;
 use crate::source::{MOST_BYTES, Source};
 use std::alloc::Global;
 
@@ -37,13 +38,19 @@ impl Source for MemorySource {
         self.files[index].name.as_str()
     }
 
-    fn read(&mut self, alloc: Global, index: usize) -> Result<Vec<u8>, SourceFault> {
+    /// The bytes are one piece.
+    fn read_into<P: Pieces>(
+        &mut self,
+        alloc: Global,
+        index: usize,
+        pieces: &mut P,
+    ) -> Result<(), SourceFault> {
         let bytes = self.files[index].bytes.as_slice();
         if bytes.len() > MOST_BYTES {
             return Err(SourceFault::TooLarge);
         }
-        match Vec::from_slice(alloc, bytes) {
-            Ok(bytes) => Ok(bytes),
+        match pieces.add(alloc, bytes) {
+            Ok(()) => Ok(()),
             Err(_) => Err(SourceFault::Memory),
         }
     }

@@ -1,9 +1,10 @@
 //! Where files come from.
-ghost use Rattle.std.specs.Prelude.{◌≡◌, ◌<◌, ◌≤◌, IfOk, IsErrOf, Some, length, slice_get, vec_len};
-ghost use Rattle.khal_ports.specs.Answers.{most_bytes, answer_of};
+ghost use Rattle.std.specs.Prelude.{◌≡◌, ◌<◌, ℕ, List, IsErrOf, OnOk, Some, length, slice_get};
+ghost use Rattle.khal_ports.specs.Answers.{answer_of, HasNone, TakesFile};
 ghost use Rattle.khal_ports.specs.Growth.{risen};
 
 use crate::fault::SourceFault;
+use crate::pieces::Pieces;
 use std::alloc::Global;
 
 /// The most bytes that a file may have.
@@ -33,13 +34,19 @@ pub trait Source {
         requires { index < length (names self.now) }
         ensures { slice_get (names self.now) index ≡ Some result.now };
 
-    /// The bytes of a file, at most 16,777,216. Device comes only if the count of failures rose by
-    /// one.
-    fn read(&mut self, alloc: Global, index: usize) -> Result<Vec<u8>, SourceFault>
-        requires { index < length (names self.old) }
-        ensures reads { reads self.old index (answer_of result) self.new }
+    /// Hands the bytes of a file, at most 16,777,216, to what takes them. Device comes only if the count of
+    /// failures rose by one; Memory if an allocation failed, also of what takes them.
+    fn read_into<P: Pieces>(
+        &mut self,
+        alloc: Global,
+        index: usize,
+        pieces: &mut P,
+    ) -> Result<(), SourceFault>
+        requires index { index < length (names self.old) }
+        requires none { HasNone P.took pieces.old }
+        ensures reads { (bytes : List ℕ) × reads self.old index (answer_of result bytes) self.new
+            × OnOk result (TakesFile P.took pieces.old bytes pieces.new) }
         ensures names { names self.new ≡ names self.old }
-        ensures bound { IfOk result (λ bytes. vec_len bytes ≤ most_bytes) }
         ensures device { IsErrOf result SourceFault.Device → failed self.new ≡ risen (failed self.old) };
 
     /// How many reads the device has failed; the count stops at its greatest value.

@@ -1,5 +1,5 @@
 -- What a file comes to.
-use Rattle.std.proofs.Common.{◌≡◌, ℕ, Bool, true, false, List, ◌++◌, Some, None, Result, Ok, Err, All, if◌then◌else◌, refl, ap, ◌∙◌}
+use Rattle.std.proofs.Common.{◌≡◌, ℕ, Bool, true, false, List, [], ◌++◌, Some, None, Result, Ok, Err, All, if◌then◌else◌, refl, sym, ap, ◌∙◌, subst}
 use Rattle.std.specs.BTreeSet.{contains}
 use Rattle.std.specs.Cmp.Lexicographic.{slice_cmp, nat_list_eq_equiv}
 use Rattle.std.specs.List.{list_any}
@@ -15,10 +15,15 @@ use Rattle.ics_calendar.specs.Parts.{file_gives, names_for_parts}
 use Rattle.ics_calendar.specs.ZoneTables.{given_by}
 use Rattle.khal_reading.specs.declared.answered.Answered.{Answered}
 use Rattle.khal_reading.specs.Asked.{given_files, is_unread, Asked}
-use Rattle.khal_reading.specs.Gives.{FileGives, Read, ReadGives, gives_of, in_parts, kept_gives, kept_read, unread, whole}
+use Rattle.khal_reading.specs.Gives.{FileGives, Read, ReadGives, given_by_file, gives_of, in_parts, kept_gives, kept_read, unread, whole}
+use Rattle.khal_ports.specs.Answers.{contents_of}
 use Rattle.khal_ports.specs.Finds.{FindAnswer}
-use Rattle.khal_reading.specs.Inner.Learned.{Learns, Settles, WantedCount}
+use Rattle.khal_ports.specs.declared.fault.SourceFault.{SourceFault}
+use Rattle.khal_ports.specs.declared.fault.SourceFault.TheVariants.{Device, TooLarge, Memory}
+use Rattle.khal_reading.specs.Inner.Learned.{Knows, Learns, LearnsSome, Settles, WantedCount}
+use Rattle.khal_reading.specs.Inner.Outcomes.{EndsReading, IsOutcome}
 use Rattle.khal_reading.proofs.AskedLemmas.{any-kept}
+use Rattle.khal_reading.proofs.LearnedLemmas.{learns-none, learns-nothing}
 
 -- zone files that agree on the names that a file wants give it one meaning, whether a run goes on behind faults or not
 abbrev pub OnlyWantedCount : Type 0
@@ -62,3 +67,44 @@ asked-settles finds asked file before after answered count learned lacks is said
     count (given_by answered.files) (given_files all)
     (All-from_any nat_list_eq_equiv (λ name. given_by answered.files name ≡ given_files all name) file.wants (λ name _. learned.knows.files name)) in
     record { learns = learned; outcome_is = rw (← tested, ← files) said }
+
+-- what is settled of a file is settled of what gives the same
+pub settles-as : {Z : Type 0} (finds : Z → List ℕ → FindAnswer → Z → Type 0) (asked : List Asked) {file other : FileGives} → file ≡ other
+    → WantedCount other → {before after : Z} {answered : Answered} {outcome : ReadGives}
+    → (WantedCount file → Settles finds asked file before after answered outcome) → Settles finds asked other before after answered outcome
+settles-as finds asked same count {before} {after} {answered} {outcome} settles =
+    subst (λ (f : FileGives). Settles finds asked f before after answered outcome) same (settles (subst WantedCount (sym same) count))
+
+-- What a file comes to that is read, and what is asked for where it comes to nothing.
+pub is-outcome : {Z : Type 0} {finds : Z → List ℕ → FindAnswer → Z → Type 0} {keep_going : Bool} {keep : KeptTexts} {name bytes : List ℕ}
+    {before after : Z} {known known' : Answered} {file : FileGives} {outcome : ReadGives} → file ≡ given_by_file keep_going name bytes
+    → ((asked : List Asked) → Knows asked known → Settles finds asked (kept_gives keep file) before after known' outcome)
+    → IsOutcome finds keep_going keep name (Ok bytes) before after known known' outcome
+is-outcome {finds = finds} {keep = keep} {bytes = bytes} {before} {after} {known' = known'} {outcome = outcome} same settles = record {
+  given = Some bytes;
+  some = refl;
+  settles = λ asked k. subst (λ (f : FileGives). Settles finds asked (kept_gives keep f) before after known' outcome) same (settles asked k);
+}
+
+pub ends-behind : {Z : Type 0} {finds : Z → List ℕ → FindAnswer → Z → Type 0} {keep_going : Bool} {name bytes : List ℕ} {before after : Z}
+    {known : Answered} {file : FileGives} → file ≡ given_by_file keep_going name bytes
+    → ((asked : List Asked) → Knows asked known → LearnsSome finds asked file.wants before after)
+    → EndsReading finds keep_going name (Ok bytes) before after known
+ends-behind {finds = finds} {bytes = bytes} {before} {after} same learns = EndsReading.AfterRead (Some bytes) refl
+    (λ asked k. subst (λ (f : FileGives). LearnsSome finds asked f.wants before after) same (learns asked k))
+
+-- a file that is not read
+pub ends-unread : {Z : Type 0} (finds : Z → List ℕ → FindAnswer → Z → Type 0) {keep_going : Bool} {name : List ℕ} (state : Z) {known : Answered}
+    (fault : SourceFault) → EndsReading finds keep_going name (Err fault) state state known
+ends-unread finds state Memory = EndsReading.InRead refl refl
+ends-unread finds state Device = EndsReading.AfterRead None refl (λ asked k. learns-nothing finds asked [] state)
+ends-unread finds state TooLarge = EndsReading.AfterRead None refl (λ asked k. learns-nothing finds asked [] state)
+
+pub unread-outcome : {Z : Type 0} (finds : Z → List ℕ → FindAnswer → Z → Type 0) {keep_going : Bool} {keep : KeptTexts} {name : List ℕ} {state : Z}
+    {known : Answered} {fault : SourceFault} {outcome : ReadGives} → (outcome ≡ unread) × (contents_of (Err fault) ≡ Some None)
+    → IsOutcome finds keep_going keep name (Err fault) state state known known outcome
+unread-outcome finds {state = state} {known = known} told = record {
+  given = None;
+  some = told.1;
+  settles = λ asked k. record { learns = learns-none finds asked state known k; outcome_is = told.0 };
+}

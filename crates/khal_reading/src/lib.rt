@@ -3,6 +3,7 @@
 #![tactic(auto)]
 
 mod answered;
+mod file_pieces;
 mod finding;
 mod outcome;
 mod reading;

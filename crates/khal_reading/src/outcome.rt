@@ -1,22 +1,25 @@
 //! What becomes of a file that is read.
-ghost use Rattle.std.specs.Prelude.{◌≡◌, ◌<◌, ◌≤◌, ◌∷◌, [], List, ℕ, Some, None, IfOk, IfErr, OnErr, OnOk, length, map};
+ghost use Rattle.std.specs.Prelude.{◌≡◌, ◌<◌, ◌≤◌, ◌∷◌, [], List, ℕ, Some, None, Err, IfOk, IfErr, OnErr, OnOk, length, map};
 ghost use Rattle.std.specs.BTreeSet.{contains};
 ghost use Rattle.std.specs.Cmp.Lexicographic.{slice_cmp};
 ghost use Rattle.std.specs.List.{list_any};
 ghost use Rattle.std.specs.Ordering.{nat_cmp};
 ghost use Rattle.ics_file.specs.File.{said_by};
 ghost use Rattle.ics_calendar.specs.ZoneTables.{given_by};
-ghost use Rattle.khal_ports.specs.Answers.{most_bytes, Answer};
+ghost use Rattle.ics_components.specs.FileReading.{HasRead};
+ghost use Rattle.ics_event.specs.Kept.{KeptTexts};
+ghost use Rattle.khal_ports.specs.Answers.{contents_of, most_bytes, Answer};
 ghost use Rattle.khal_reading.specs.Asked.{Asked};
-ghost use Rattle.khal_reading.specs.Gives.{given_by_file, gives_whole, in_parts, kept_gives, name_at};
+ghost use Rattle.khal_reading.specs.Gives.{gives_in_parts, gives_whole, in_parts, kept_gives, name_at, unread};
 ghost use Rattle.khal_reading.specs.Inner.Learned.{Knows, Learns, LearnsSome, Settles, WantedCount};
 ghost use Rattle.khal_reading.specs.Inner.Outcomes.{half_gives, refusal_by, refusal_of, seen_outcome, EndsReading, IsOutcome};
 
 use crate::answered::Answered;
+use crate::file_pieces::ReadPieces;
 use crate::refusal::Refusal;
 use ics_calendar::{
-    Fault, FaultKind, FileFault, GivenFile, PartialFile, SharedZones, UnresolvedFile, ZoneFiles,
-    only_names_for_parts_count, only_wanted_files_count,
+    Fault, FaultKind, FileFault, FileReader, GivenFile, PartialFile, SharedZones, UnresolvedFile,
+    ZoneFiles, only_names_for_parts_count, only_wanted_files_count,
 };
 use ics_event::{KeptTexts, Text};
 use ics_file::FileEvents;
@@ -85,18 +88,18 @@ impl Outcome {
 }
 
 impl<'a> HalfRead<'a> {
-    /// Reads a file of which all events are listed or none.
+    /// A file of which all events are listed or none, and whose bytes are read.
     fn whole(
         alloc: Global,
         shared: &mut SharedZones,
-        keep: KeptTexts,
-        bytes: &[u8],
+        reader: FileReader,
     ) -> Result<HalfRead<'a>, RunFault>
-        requires { length bytes.now ≤ most_bytes }
-        ensures ok { IfOk result (λ half. half_gives half ≡ kept_gives keep (gives_whole bytes.now)) }
+        requires { (keep : KeptTexts) × (bytes : List ℕ) × HasRead keep bytes reader }
+        ensures ok { (keep : KeptTexts) (bytes : List ℕ) → HasRead keep bytes reader
+            → IfOk result (λ half. half_gives half ≡ kept_gives keep (gives_whole bytes)) }
         ensures err { IfErr result (λ fault. fault ≡ RunFault.Memory) }
     {
-        match UnresolvedFile::sharing(alloc, shared, keep, bytes) {
+        match UnresolvedFile::of_reader(alloc, shared, reader) {
             Ok(unresolved) => Ok(HalfRead::Whole(unresolved)),
             Err(FileFault::At { line, kind }) => Ok(HalfRead::Faulty { line, kind }),
             Err(FileFault::Memory) => Err(RunFault::Memory),
@@ -191,36 +194,60 @@ fn outcome_with<Z: ZoneSource>(
     }
 }
 
-/// What the bytes of a file of that name come to.
-fn outcome_of<Z: ZoneSource>(
+/// What a file comes to of which all events are listed or none, and whose bytes are read.
+fn outcome_of_whole<Z: ZoneSource>(
+    alloc: Global,
+    zones: &mut Z,
+    answered: &mut Answered,
+    shared: &mut SharedZones,
+    reader: FileReader,
+) -> Result<Outcome, RunFault>
+    requires { (keep : KeptTexts) × (bytes : List ℕ) × HasRead keep bytes reader }
+    ensures ok { (keep : KeptTexts) (bytes : List ℕ) → HasRead keep bytes reader
+        → IfOk result (λ outcome. (asked : List Asked) → Knows asked answered.old
+        → Settles Z.finds asked (kept_gives keep (gives_whole bytes)) zones.old zones.new answered.new (seen_outcome outcome)) }
+    ensures some { (keep : KeptTexts) (bytes : List ℕ) → HasRead keep bytes reader → OnErr result ((asked : List Asked) → Knows asked answered.old
+        → LearnsSome Z.finds asked (gives_whole bytes).wants zones.old zones.new) }
+    ensures err { IfErr result (λ fault. fault ≡ RunFault.Memory) }
+{
+    only_wanted_files_count();
+    only_names_for_parts_count();
+    let half = HalfRead::whole(alloc, shared, reader)?;
+    outcome_with(alloc, zones, answered, half)
+}
+
+/// What the bytes of a file of that name come to whose sound parts are kept.
+fn outcome_in_parts<Z: ZoneSource>(
     alloc: Global,
     zones: &mut Z,
     answered: &mut Answered,
     shared: &mut SharedZones,
     name: &str,
-    bytes: Vec<u8>,
-    keep_going: bool,
+    bytes: &[u8],
     keep: KeptTexts,
 ) -> Result<Outcome, RunFault>
-    requires { length bytes.items ≤ most_bytes }
+    requires { length bytes.now ≤ most_bytes }
     ensures ok { IfOk result (λ outcome. (asked : List Asked) → Knows asked answered.old
-        → Settles Z.finds asked (kept_gives keep (given_by_file keep_going name.now bytes.items)) zones.old zones.new answered.new (seen_outcome outcome)) }
+        → Settles Z.finds asked (kept_gives keep (gives_in_parts name.now bytes.now)) zones.old zones.new answered.new (seen_outcome outcome)) }
     ensures some { OnErr result ((asked : List Asked) → Knows asked answered.old
-        → LearnsSome Z.finds asked (given_by_file keep_going name.now bytes.items).wants zones.old zones.new) }
+        → LearnsSome Z.finds asked (gives_in_parts name.now bytes.now).wants zones.old zones.new) }
     ensures err { IfErr result (λ fault. fault ≡ RunFault.Memory) }
 {
     only_wanted_files_count();
     only_names_for_parts_count();
-    if keep_going {
-        let lent = bytes.as_slice();
-        let partial = PartialFile::sharing(alloc, shared, name, lent)?;
-        return outcome_with(alloc, zones, answered, HalfRead::InParts(partial, keep));
+    let partial = PartialFile::sharing(alloc, shared, name, bytes)?;
+    outcome_with(alloc, zones, answered, HalfRead::InParts(partial, keep))
+}
+
+/// What a file comes to that is not read.
+fn not_read(alloc: Global, fault: SourceFault) -> Result<Outcome, RunFault>
+    ensures ok { IfOk result (λ outcome. (seen_outcome outcome ≡ unread) × (contents_of (Err fault) ≡ Some None)) }
+    ensures err { IfErr result (λ fault. fault ≡ RunFault.Memory) }
+{
+    match fault {
+        SourceFault::Memory => Err(RunFault::Memory),
+        _ => Ok(Outcome::refused(alloc, Refusal::Unread)?),
     }
-    let read = bytes.as_slice();
-    let half = HalfRead::whole(alloc, shared, keep, read)?;
-    // the bytes have no use while the events are made
-    drop(bytes);
-    outcome_with(alloc, zones, answered, half)
 }
 
 /// Reads a file, and asks for the names that it wants. Only a failed allocation is a fault here; a file
@@ -243,18 +270,18 @@ pub(crate) fn read_outcome<S: Source, Z: ZoneSource>(
         × OnErr result (EndsReading Z.finds keep_going (name_at (S.names source.old) index) answer zones.old zones.new answered.old) }
     ensures err { IfErr result (λ fault. fault ≡ RunFault.Memory) }
 {
-    match source.read(alloc, index) {
-        Ok(bytes) => outcome_of(
-            alloc,
-            zones,
-            answered,
-            shared,
-            source.name(index),
-            bytes,
-            keep_going,
-            keep,
-        ),
-        Err(SourceFault::Memory) => Err(RunFault::Memory),
-        Err(_) => Ok(Outcome::refused(alloc, Refusal::Unread)?),
+    if keep_going {
+        let mut bytes = Vec::new(alloc);
+        match source.read_into(alloc, index, &mut bytes) {
+            Ok(()) => {}
+            Err(fault) => return not_read(alloc, fault),
+        }
+        let name = source.name(index);
+        return outcome_in_parts(alloc, zones, answered, shared, name, bytes.as_slice(), keep);
+    }
+    let mut pieces = ReadPieces::new(alloc, keep);
+    match source.read_into(alloc, index, &mut pieces) {
+        Ok(()) => outcome_of_whole(alloc, zones, answered, shared, pieces.reader),
+        Err(fault) => not_read(alloc, fault),
     }
 }

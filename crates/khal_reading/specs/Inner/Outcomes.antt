@@ -1,5 +1,5 @@
 -- What the code keeps of a read.
-use Rattle.std.specs.Prelude.{◌≡◌, ℕ, Bool, List, [], ◌∷◌, map, Option, Some, None, Result, Ok, Err}
+use Rattle.std.specs.Prelude.{◌≡◌, ℕ, Bool, List, [], map, Some, None, Err}
 use Rattle.std.specs.Option.{option_map}
 use Rattle.ics_file.specs.File.{said_by}
 use Rattle.ics_event.specs.Kept.{KeptTexts}
