@@ -1,5 +1,5 @@
 -- The locals of a period, and a period as a product of sets.
-use Rattle.std.specs.Prelude.{◌≡◌, ℕ, ◌+◌, ◌-◌, ◌*◌, ◌/◌, ◌%◌, ◌^◌, ◌<◌, ◌≤◌, Bool, ◌&&◌, ◌==◌, nat_le, pos, true, false, List, Option, MatchOption}
+use Rattle.std.specs.Prelude.{◌≡◌, ℕ, ◌+◌, ◌-◌, ◌*◌, ◌/◌, ◌%◌, ◌^◌, ◌<◌, ◌≤◌, Bool, ◌&&◌, ◌==◌, nat_le, pos, true, false, Option, MatchOption}
 use Rattle.jiff_core.specs.Calendar.{days_of_months}
 use Rattle.ics_fields.specs.Days.{days_before_year}
 use Rattle.ics_fields.specs.Sets.{contains, contains_wide, IsLeastFrom}

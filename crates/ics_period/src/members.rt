@@ -8,7 +8,8 @@ use ics_fields::{BitSet, WideBitSet};
 
 /// A set of numbers below 384.
 pub trait Members {
-    ghost use Rattle.std.specs.Prelude.{ℕ, Bool, ◌≡◌, ◌≤◌};
+    ghost use Rattle.std.specs.Prelude.{ℕ, Bool, ◌≡◌, ◌<◌, ◌≤◌, IfSome};
+    ghost use Rattle.ics_fields.specs.Sets.{IsNextIn};
     ghost use Rattle.ics_period.specs.Ranks.{count};
 
     /// Whether a number is a member.
@@ -18,6 +19,11 @@ pub trait Members {
     fn count_below(&self, n: u16) -> u64
         requires { n ≤ 384 }
         ensures { result ≡ count n (Self.has self.now) };
+
+    /// The least member.
+    fn first(&self) -> Option<u16>
+        ensures next { IsNextIn (Self.has self.now) 0 result }
+        ensures small { IfSome result (λ m. m < 384) };
 }
 
 impl Members for BitSet {
@@ -26,6 +32,10 @@ impl Members for BitSet {
     #[tactic(auto, using(crate::proofs::Counts::count_of_ones))]
     fn count_below(&self, n: u16) -> u64 {
         self.ones_below(n) as u64
+    }
+
+    fn first(&self) -> Option<u16> {
+        Some(self.next_from(0)? as u16)
     }
 }
 
@@ -42,6 +52,10 @@ impl Members for WideBitSet {
             return total;
         }
         total + self.word(n / 64).ones_below(rest) as u64
+    }
+
+    fn first(&self) -> Option<u16> {
+        self.next_from(0)
     }
 }
 
@@ -61,8 +75,17 @@ pub(crate) fn nth_member<S: Members>(set: &S, k: u64) -> u16
     ensures nth { IsNth (S.has set.now) k result }
     ensures small { result < 384 }
 {
+    if k == 0 {
+        if let Some(first) = set.first() {
+            return first;
+        }
+    }
     let mut low = 0;
     let mut width = 384;
+    // Most members are below a word's end.
+    if set.count_below(64) > k {
+        width = 64;
+    }
     while width > 1 {
         let half = width / 2;
         if set.count_below(low + half) > k {

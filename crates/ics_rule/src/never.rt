@@ -148,6 +148,11 @@ pub(crate) fn chooses_none(parts: &EffectiveRule) -> bool
     if parts.positions.is_empty() {
         return false;
     }
+    let places = &parts.positions.list;
+    // A period that has a local has this place.
+    if places.front.contains(1) | places.back.contains(1) {
+        return false;
+    }
     let most = most_allowed(parts);
-    is_past(&parts.positions.list.front, most) & is_past(&parts.positions.list.back, most)
+    is_past(&places.front, most) & is_past(&places.back, most)
 }
