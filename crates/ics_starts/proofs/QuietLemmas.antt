@@ -122,6 +122,31 @@ module _ (s : RuleStarts) where
     ]
   ]
 
+  -- Nor before the local's own instant, where none is kept from it up to a later one.
+  pub quiet-past : (next later : Local) {settled t : ℤ} → IsDayNumber next.day → NoneKept s.rule (place_of s.cursor) (number next)
+      → NoneKept s.rule (max (place_of s.cursor) (number next + 1)) (number later)
+      → (t ≤ℤ s.beyond) × ((t ≤ℤ instant clocks (time_at s.event.now.start next)) × (t ≤ℤ (settled +ℤ pos 1)))
+      → ((n : ℕ) → number later ≤ n → settled <ℤ moment_numbered clocks s.event.now n) → AreQuiet clocks s.event.now s.rule s.window (number s.from) t
+  quiet-past next later {t = t} day none rest less after n l late = elim (cases_lt n (place_of s.cursor)) [
+    | inl early ↦ λ by end. let b = s.past_end n l early by end in omega (arith, ints, b, less.0)
+    | inr past ↦ λ by end.
+        let kept = kept-by clocks s.event.now s.rule s.window (number s.from) n by in
+        elim (cases_lt n (number next)) [
+          | inl before ↦ absurd (let no : true ≡ false = sym kept ∙ none n past before in cc)
+          | inr on ↦ elim (cases_lt (number next) n) [
+            | inl behind ↦ elim (cases_lt n (number later)) [
+              | inl before ↦ absurd (let no : true ≡ false = sym kept ∙ rest n (omega (arith, past, behind)) before in cc)
+              | inr over ↦ let at = after n over in omega (arith, ints, at, less.1.1)
+            ]
+            | inr up ↦
+                let same : number next ≡ n = omega (arith, on, up) in
+                let own = ap (λ (a : Local). instant clocks (time_at s.event.now.start a)) (numbered-number next day) in
+                let at : t ≤ℤ moment_numbered clocks s.event.now (number next) = omega (arith, ints, own, less.1.0) in
+                subst (λ m. t ≤ℤ moment_numbered clocks s.event.now m) same at
+          ]
+        ]
+  ]
+
   -- where UNTIL is before the window's end nothing is
   pub quiet-ended : {until : ℤ} (t : ℤ) → until_moment s.rule ≡ Some until → until <ℤ s.window.to
       → AreQuiet clocks s.event.now s.rule s.window (number s.from) t

@@ -340,7 +340,7 @@ fn keep_stretch(
 }
 
 impl<'a> RuleStarts<'a> {
-    ghost use Rattle.std.specs.Prelude.{◌≡◌, ◌+◌, ◌-◌, ◌-ℤ◌, ◌<◌, ◌≤ℤ◌, ℕ, false, length, slice_get, IfOk, MatchOption, OnOk, Some};
+    ghost use Rattle.std.specs.Prelude.{◌≡◌, ◌+◌, ◌-◌, ◌-ℤ◌, ◌<◌, ◌≤ℤ◌, ℕ, false, length, max, slice_get, IfOk, MatchOption, OnOk, Some};
     ghost use Rattle.ics_rule.specs.Cursors.{steps_of, HasLooked};
     ghost use Rattle.ics_listing.specs.Listing.{IsIn};
     ghost use Rattle.ics_listing.specs.Merged.{cut};
@@ -950,10 +950,69 @@ impl<'a> RuleStarts<'a> {
         let settled = self.settled_at(next);
         // They are after a settled instant.
         let after = settled + 1;
+        // A local later in its day is on that day by each offset of the clock.
+        let is_early = i64::from(next.second) < self.bounds.most - self.bounds.least;
+        if is_early && after < self.beyond && self.is_told_by(next.seconds()) {
+            return self.quiet_past(next);
+        }
         self.beyond.min(after)
     }
 
+    /// Whether more is told by the instant of a local, given by its seconds, and by when it is followed by another, than by the known stretch: the clock
+    /// is that of a zone that may turn often, which is asked for no other.
+    fn is_told_by(&self, local: Moment) -> bool
+        ensures late { result ≡ true → year_seconds 1 ≤ℤ local }
+        ensures early { result ≡ true → local <ℤ year_seconds 9_801 }
+    {
+        let event = self.event;
+        let is_late = self.window.to + SOON < local && local < LAST;
+        is_late && self.asks_about(local) && turns_often(self.zones, event.start)
+    }
+
+    /// The same instant by that of this local itself, and by when the rule may keep a later one.
+    #[inline(never)]
+    fn quiet_past(&self, next: Local) -> Moment
+        requires day { IsDayNumber next.day }
+        requires late { year_seconds 1 ≤ℤ local_seconds next }
+        requires early { local_seconds next <ℤ year_seconds 9_801 }
+        requires none { NoneKept self.now.rule (place_of self.now.cursor) (number next) }
+        ensures { AreQuiet (clocks_in self.now.zones) self.now.event.now self.now.rule self.now.window (number self.now.from) result }
+    {
+        let event = self.event;
+        let moment = instant_in(self.zones, self.stretch, time_at(event.start, next));
+        let later = self.later_than(next);
+        let settled = self.settled_at(later);
+        let after = settled + 1;
+        self.beyond.min(moment).min(after)
+    }
+
+    /// A local before which the rule keeps none behind this one, from the place of the cursor on. If that is the end of this one's day alone, more is
+    /// asked about the days behind it.
+    fn later_than(&self, local: Local) -> Local
+        requires day { IsDayNumber local.day }
+        requires early { local_seconds local <ℤ year_seconds 9_801 }
+        ensures none { NoneKept self.now.rule (max (place_of self.now.cursor) (number local + 1)) (number result) }
+        ensures day { IsDayNumber result.day }
+    {
+        let behind = local.number() + 1;
+        let place = self.place.max(behind);
+        let mut cursor = self.cursor;
+        cursor.pass(self.rule.get(), Local::numbered(behind));
+        let later = quiet(&self.kept, &mut cursor, place, self.rule.get());
+        if later.second > 0 || local.day + 1 < later.day {
+            return later;
+        }
+        cursor.pass(self.rule.get(), later);
+        quiet(
+            &self.kept,
+            &mut cursor,
+            place.max(later.number()),
+            self.rule.get(),
+        )
+    }
+
     /// An instant that is before those of all locals from one on.
+    #[inline(always)]
     fn settled_at(&self, next: Local) -> Moment
         requires { IsDayNumber next.day }
         ensures after { (n : ℕ) → number next ≤ n → result <ℤ moment_numbered (clocks_in self.now.zones) self.now.event.now n }
@@ -966,25 +1025,30 @@ impl<'a> RuleStarts<'a> {
         settled_from(stretch, self.bounds.most, first)
     }
 
-    /// The stretch that is known or, where that does not hold a local, given by its seconds, the one about it that the clock tells. The clock
-    /// is not asked where its offsets are no further apart than the local is from the beginning of its day: by each of them it is that day. Nor is a
-    /// zone of the file about a local that comes soon, and one that may change its clock many times a year about none: a stretch of it takes long.
-    fn stretch_about(&self, local: Moment) -> Stretch
-        requires { IsMoment local }
-        ensures { IsStretched (clock_of (clocks_in self.now.zones) self.now.event.now.start) result }
-    {
+    /// Whether a stretch about a local, given by its seconds, is worth a question to the clock, since the known one does not hold it. It is not where the
+    /// clock's offsets are no further apart than the local is from the beginning of its day: by each of them it is that day. Nor is that of a zone of the
+    /// file about a local that comes soon.
+    fn asks_about(&self, local: Moment) -> bool {
         let event = self.event;
         let apart = self.bounds.most - self.bounds.least;
         let time = local.saturating_add(EPOCH) % DAY;
         let is_soon = local <= self.window.to.saturating_add(SOON);
         let is_left = is_soon && is_zoned(event.start.stamp);
-        if is_left || apart <= time || is_in(self.stretch, local) {
-            return self.stretch;
+        !is_left && time < apart && !is_in(self.stretch, local)
+    }
+
+    /// The stretch that is known or, if one about a local, given by its seconds, is worth a question, the one that the clock tells. That of a zone that may
+    /// turn often is not asked: a stretch of it takes long.
+    fn stretch_about(&self, local: Moment) -> Stretch
+        requires { IsMoment local }
+        ensures { IsStretched (clock_of (clocks_in self.now.zones) self.now.event.now.start) result }
+    {
+        let event = self.event;
+        if self.asks_about(local) && !turns_often(self.zones, event.start) {
+            stretch(self.zones, event.start, local)
+        } else {
+            self.stretch
         }
-        if turns_often(self.zones, event.start) {
-            return self.stretch;
-        }
-        stretch(self.zones, event.start, local)
     }
 
     /// Puts a mark of a cursor at the place of the search, if the rule has COUNT, and if nothing begins up to an instant that is so late that a later

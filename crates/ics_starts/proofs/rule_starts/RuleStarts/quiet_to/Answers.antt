@@ -8,6 +8,16 @@ overflow_add-after c =
     let settles : SFits w64 c.settled_at-settled.result = search rules in
     omega (arith, ints, c.settled_at-settled.ensures.near)
 
+pub quiet_past-requires-clause-late : goal.quiet_past-requires-clause-late
+quiet_past-requires-clause-late c =
+    let seconds : SFits w64 c.seconds.result = search rules in
+    omega (arith, ints, c.is_told_by.ensures.late c.if-is_told_by.true, c.seconds.ensures)
+
+pub quiet_past-requires-clause-early : goal.quiet_past-requires-clause-early
+quiet_past-requires-clause-early c =
+    let seconds : SFits w64 c.seconds.result = search rules in
+    omega (arith, ints, c.is_told_by.ensures.early c.if-is_told_by.true, c.seconds.ensures)
+
 pub returns : goal.returns
 returns c =
     let s = c.args.self.now in
