@@ -153,6 +153,9 @@ impl Cursor {
                     None => self.quiet_from(search, end),
                 };
             }
+            if self.place == end {
+                return self.quiet_from(search, end);
+            }
         }
         if self.is_ahead(search, period_of(parts, self.place)) {
             self.quiet_from(search, self.quiet_to)

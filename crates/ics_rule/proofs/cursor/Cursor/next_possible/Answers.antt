@@ -4,7 +4,7 @@ use Rattle.ics_period.specs.Candidates.{period_in}
 use Rattle.ics_period.proofs.PeriodLemmas.{before_first, begun, is_short, period_mono, period_small}
 use Rattle.ics_rule.proofs.QuietLemmas.{held_next, held_none, joined}
 use Rattle.ics_rule.proofs.cursor.Cursor.next_possible.Goals as goal
-use Rattle.ics_rule.proofs.cursor.Cursor.next_possible.Goals.{After-is_ahead, In-Some, Then-self-end, in-Some+else-self-end, in_default}
+use Rattle.ics_rule.proofs.cursor.Cursor.next_possible.Goals.{After-is_ahead, In-Some, Then-self-end, in-Some+else-self-end+else-self-end-2, in_default}
 
 -- the period held is not past that of the place
 late : (c : In-Some) → c.in-Some.period.number ≤ period_in c.args.search.now.parts.now c.args.self.now.place
@@ -54,9 +54,20 @@ returns-in-None-clause-none c =
     joined c.args.search.now.parts.now c.args.search.now.start c.first_local-end.result
     (λ n l u. none n l (omega (arith, u, c.first_local-end.ensures))) c.quiet_from.ensures.none
 
+pub quiet_from-requires-then-self-end-2-clause-passed : goal.quiet_from-requires-then-self-end-2-clause-passed
+quiet_from-requires-then-self-end-2-clause-passed c =
+    let q = c.args.search.now.parts.now in
+    rw c.in-Some.is (λ n l u. absurd (
+    let low = before_first q.frequency (monday_zero q.week_start) (c.number.result + 1) n (omega (arith, u, c.first_local-end.ensures)) in
+    omega (arith, low, l, c.number.ensures)))
+
+pub returns-then-self-end-2-clause-none : goal.returns-then-self-end-2-clause-none
+returns-then-self-end-2-clause-none c =
+    λ n l u. c.quiet_from-then-self-end-2.ensures.none n (omega (arith, l, c.if-self-end-2.true)) u
+
 -- the cursor is still as it was
 unmoved : (c : After-is_ahead) → c.match-self.self ≡ c.args.self.now
-unmoved c = elim c.match-self.branch [ in-Some+else-self-end w ↦ w.self-is | in_default w ↦ w.self-is ]
+unmoved c = elim c.match-self.branch [ in-Some+else-self-end+else-self-end-2 w ↦ w.self-is | in_default w ↦ w.self-is ]
 
 pub returns-then-is_ahead-clause-none : goal.returns-then-is_ahead-clause-none
 returns-then-is_ahead-clause-none c =
