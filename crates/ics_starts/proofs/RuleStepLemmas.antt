@@ -150,6 +150,9 @@ module _ (s : RuleStarts) where
   pub end-days : IsDayNumber s.end
   end-days = (omega (arith, ints, s.reached.low, s.reached.on, s.reached.by_end), omega (arith, ints, end-soon, s.window.not_late))
 
+  pub asked-days : IsDayNumber s.asked
+  asked-days = (omega (arith, ints, s.reached.low, s.reached.on), omega (arith, ints, s.reached.by_end, end-days.1))
+
   -- the midnight of the end, as it is read back
   pub end-back : {at : Local} {seconds : ℤ} → at ≡ local_at (to_z w32 (of_z w32 s.end)) 0 → seconds ≡ local_seconds at → seconds ≡ midnight s.end
   end-back is e = let there = ap (λ (l : Local). local_seconds l) is in omega (arith, ints, e, there, day-back s.end end-days)
@@ -217,14 +220,17 @@ module _ (s : RuleStarts) where
       let early = given-early s.day f.by day-days (omega (arith, s.reached.read, f.from_place)) f.given in
       (omega (arith, ints, late, ap (λ (x : Start). x.moment) f.is), early)
 
-  -- and after the settled instant
+  -- all locals to be read mean instants after the settled one
+  pub settled-before : (n : ℕ) → place_of s.cursor ≤ n → settled_in s <ℤ moment_numbered (clocks_in s.zones) s.event.now n
+  settled-before n l =
+      late-stretched s.zones s.event.now s.bounds s.rule_of.bounded s.stretch s.stretched s.day s.next n day-days (omega (arith, s.reached.read, l))
+      (omega (arith, ints, s.reached.next_read, l))
+
+  -- and so what they give is after it
   found-settled : (t : Start) → IsIn t unread → settled_in s <ℤ t.moment
   found-settled t m =
       let f = found-is s.zones s.event.now s.rule s.window (place_of s.cursor) t m in
-      let after =
-      late-stretched s.zones s.event.now s.bounds s.rule_of.bounded s.stretch s.stretched s.day s.next f.by day-days
-      (omega (arith, s.reached.read, f.from_place)) (omega (arith, ints, s.reached.next_read, f.from_place)) in
-      omega (arith, ints, after, ap (λ (x : Start). x.moment) f.is)
+      omega (arith, ints, settled-before f.by f.from_place, ap (λ (x : Start). x.moment) f.is)
 
   -- which is so early that they can still begin before the window's end
   found-open : (t : Start) → IsIn t unread → settled_in s <ℤ (s.window.to -ℤ pos 1)

@@ -1,5 +1,6 @@
 //! A rule with the locals that searches of it have found, so that a later search need not make it, nor look for them, again.
 ghost use Rattle.std.specs.Prelude.{◌≡◌, ◌<◌, ◌≤◌, ℕ, Some, MatchOption, IfOk, IfSome, slice_get};
+ghost use Rattle.std.specs.Int.{int_min};
 ghost use Rattle.std.specs.Option.{option_map};
 ghost use Rattle.ics_fields.specs.Days.{IsDayNumber};
 ghost use Rattle.ics_fields.specs.Locals.{number};
@@ -10,13 +11,14 @@ ghost use Rattle.ics_rule.specs.Cursors.{known_to, place_of, HasLooked, IsCursor
 ghost use Rattle.ics_rule.specs.Next.{NoneKept};
 ghost use Rattle.ics_starts.specs.Inner.Finds.{IsCounting, IsFound, IsNextLocal, IsStep, LooksOn};
 ghost use Rattle.ics_starts.specs.Inner.KeptFinds.{counting-prop, finds-prop, AreFinds, HasCounting, IsFind};
-ghost use Rattle.ics_starts.specs.RuleMarks.{IsCountMark};
+ghost use Rattle.ics_starts.specs.RuleMarks.{IsBegun, IsCountMark};
 ghost use Rattle.ics_starts.specs.RuleStartLaws.{cursor-prop, rule-prop};
+ghost use Rattle.ics_starts.specs.RuleStarts.{midnight_number, HasLookedTo};
 ghost use Rattle.ics_starts.specs.Starts.{recurrence_of};
 
 use crate::kind::kind_of;
 use crate::lasting::day_of;
-use crate::mark::Mark;
+use crate::mark::{Mark, begin, is_counted};
 use crate::placed_cursor::PlacedCursor;
 use crate::shared_rule::SharedRule;
 use ics_event::{Event, Length, Rdate, Time};
@@ -66,7 +68,7 @@ pub struct KeptLocals<'a> {
     at: usize,
     /// What this search has passed and found.
     found: Vec<Find>,
-    /// Under COUNT, the cursor that went furthest.
+    /// Under COUNT, the cursor that went furthest or, if finds are not kept, one from which a later search goes on.
     counting: Option<PlacedCursor>,
     /// Whether more is found at once than is searched for, since a period of the rule is dear to look at. Under COUNT it is not.
     learns: bool,
@@ -431,6 +433,32 @@ impl<'a> KeptLocals<'a> {
         local
     }
 
+    /// Keeps a cursor under COUNT, moved on to the midnight of a day from which on it has looked at no period. If finds are kept, searches keep their own.
+    #[inline(never)]
+    fn keep(&mut self, rule: &Rule, from: Local, cursor: &Cursor, place: u64, day: i32)
+        requires rule { self.old.rule ≡ rule.now }
+        requires own { IsCursorOf rule.now cursor.now }
+        requires place { place ≡ place_of cursor.now }
+        requires looked { HasLookedTo rule.now from day cursor.now }
+        requires day { IsDayNumber day }
+        ensures rule { self.new.rule ≡ self.old.rule }
+        ensures event { self.new.event ≡ self.old.event }
+    {
+        let to = Local::at(day, 0).number();
+        if self.keeps || to < place || cursor.steps() == 0 {
+            return;
+        }
+        if !is_counted(self.event) {
+            return;
+        }
+        let mut counting = PlacedCursor {
+            cursor: *cursor,
+            place,
+        };
+        counting.pass(rule, to);
+        self.counting = Some(counting);
+    }
+
     /// Finds the next local that the rule keeps from a cursor's place on, in its year or a part of it, where nothing is known from there on. It is known then.
     /// The cursor holds the period that was looked at for it.
     fn learn(&mut self, cursor: &mut PlacedCursor) -> Find
@@ -519,9 +547,35 @@ pub(crate) fn is_searched(kept: &Option<Box<KeptLocals<'_>>>) -> bool {
     }
 }
 
-/// A mark at a midnight, of the cursor that went furthest under COUNT, if searches go on from that and it is not past the midnight. What it has passed is
-/// not counted again. None if there is no mark yet.
-pub(crate) fn furthest(
+/// Keeps a cursor of a search under COUNT, if that asks for it, for later searches of the rule.
+#[inline(always)]
+pub(crate) fn keep_cursor(
+    kept: &mut Option<Box<KeptLocals<'_>>>,
+    rule: &Rule,
+    from: Local,
+    cursor: &Cursor,
+    place: u64,
+    day: i32,
+    asks: bool,
+)
+    requires kept { MatchOption kept.old (Unit {0}) (λ k. k.value.rule ≡ rule.now) }
+    requires own { IsCursorOf rule.now cursor.now }
+    requires place { place ≡ place_of cursor.now }
+    requires looked { HasLookedTo rule.now from day cursor.now }
+    requires day { IsDayNumber day }
+    ensures rule { MatchOption kept.new (Unit {0}) (λ k. k.value.rule ≡ rule.now) }
+    ensures same { MatchOption kept.new (Unit {0}) (λ k. MatchOption kept.old ⊥ (λ j. k.value.event ≡ j.value.event)) }
+{
+    if let Some(kept) = kept {
+        if asks && kept.counting.is_some() {
+            kept.keep(rule, from, cursor, place, day);
+        }
+    }
+}
+
+/// A mark at a midnight, of a cursor that is kept under COUNT, if it went further than the mark and is not past the midnight. What it has passed is not
+/// counted again. If finds are kept, searches go on from that cursor themselves, and it may be before the mark. None if there is no mark yet.
+fn furthest(
     kept: &Option<Box<KeptLocals<'_>>>,
     rule: &Rule,
     from: Local,
@@ -532,15 +586,47 @@ pub(crate) fn furthest(
     requires mark { MatchOption mark (Unit {0}) (λ m. IsCountMark rule.now m.now) }
     ensures { MatchOption result (Unit {0}) (IsCountMark rule.now) }
 {
-    let _counted = mark?;
+    let counted = mark?;
     let kept = kept.as_ref()?;
     let counting = kept.counting.as_ref()?;
-    if !kept.keeps || from.second != 0 || from.number() < counting.place {
+    let is_known = !kept.keeps && counting.place <= counted.from.number();
+    if is_known || from.second != 0 || from.number() < counting.place {
         return None;
     }
     let mut cursor = counting.cursor;
     cursor.pass(rule, from);
     Some(Mark { from, cursor })
+}
+
+/// Sets the cursor of a search of a rule to a local, where the next one up to the midnight of day `end` begins. Under COUNT that goes on from a mark or, if
+/// it is further on, from where a search before it was kept, or ended: it had looked at no period from the midnight of `day` on.
+pub(crate) fn go_on(
+    kept: &mut Option<Box<KeptLocals<'_>>>,
+    cursor: &mut Cursor,
+    rule: &Rule,
+    before: Local,
+    place: u64,
+    day: i32,
+    from: Local,
+    end: i32,
+    mark: Option<&Mark>,
+)
+    requires kept { MatchOption kept.old (Unit {0}) (λ k. k.value.rule ≡ rule.now) }
+    requires own { IsCursorOf rule.now cursor.old }
+    requires place { place ≡ place_of cursor.old }
+    requires looked { HasLookedTo rule.now before day cursor.old }
+    requires day { IsDayNumber day }
+    requires from { IsDayNumber from.day }
+    requires end { IsDayNumber end }
+    requires early { midnight_number end ≤ rules_end }
+    requires mark { MatchOption mark (Unit {0}) (λ m. IsCountMark rule.now m.now) }
+    ensures same { MatchOption kept.new (Unit {0}) (λ k. MatchOption kept.old ⊥ (λ j. k.value.event ≡ j.value.event)) }
+    ensures begun { IsBegun rule.now from cursor.new }
+    ensures looked { HasLookedTo rule.now from (int_min from.day end) cursor.new }
+{
+    keep_cursor(kept, rule, before, cursor, place, day, day <= from.day);
+    let further = furthest(kept, rule, from, mark);
+    begin(cursor, rule, from, end, further.as_ref().or(mark));
 }
 
 /// Ends a search of a rule, of which something is kept.

@@ -29,15 +29,18 @@ use crate::instants::{
     DAYS, are_made_for, bounds, instant_in, is_in, no_stretch, stretch, stretch_by, told_by,
     turns_often,
 };
-use crate::kept_locals::{KeptLocals, end, furthest, is_searched, known_next, leave, next, quiet};
+use crate::kept_locals::{
+    KeptLocals, end, go_on, is_searched, keep_cursor, known_next, leave, next, quiet, times_of_day,
+};
+use crate::lasting::day_of;
 use crate::listed::lesser_past;
 use crate::mark::{Mark, begin, is_counted};
 use crate::shared_rule::SharedRule;
 use crate::starts::{end_nearby, is_until};
 use crate::told_ends::are_told;
 use crate::zones::FileZones;
-use ics_event::{Event, Time};
-use ics_fields::Frequency;
+use ics_event::{Event, Length, Time};
+use ics_fields::{Frequency, Parts};
 use ics_listing::{Queue, Start, Waiting, Window, local_of, time_at};
 use ics_rule::{Cursor, Rule};
 use ics_values::{Local, Moment, Stamp, is_zoned};
@@ -112,6 +115,8 @@ pub(crate) struct RuleStarts<'a> {
     told: u16,
     /// Locals that are nearer to one another than these seconds are close.
     close: u16,
+    /// For so many days from that of a kept local on the rule most likely keeps no other.
+    apart: i32,
     held: Queue,
     /// None of the locals read so far that are at the window's end or later is before this instant.
     beyond: Moment,
@@ -171,17 +176,48 @@ fn hold(
     Ok(())
 }
 
-/// Whether the parts of an event's rule tell at once that most locals that it keeps are days apart.
-fn is_sparse(event: &Event) -> bool {
+/// Whether a rule keeps at most one local of a day, as its parts tell at once: they name one hour, minute and second, as far as FREQ leaves them open.
+fn is_once_a_day(parts: &Parts) -> bool {
+    let (no_hours, no_minutes) = (parts.hours.is_empty(), parts.minutes.is_empty());
+    let is_open = match parts.frequency {
+        Frequency::Hourly => no_hours,
+        Frequency::Minutely => no_hours || no_minutes,
+        Frequency::Secondly => no_hours || no_minutes || parts.seconds.is_empty(),
+        _ => false,
+    };
+    !is_open && times_of_day(parts) == 1
+}
+
+/// Whether an event begins at a time of a day on which it ends.
+fn ends_at_once(event: &Event) -> bool {
+    match (event.start.stamp, event.length) {
+        (Stamp::Date(_), _) => false,
+        (_, Length::Open) => true,
+        (first, Length::Until(end)) => day_of(end.stamp) <= day_of(first),
+        (first, Length::Lasting(duration)) => {
+            let begin = u64::from(local_of(first).second);
+            duration.days == 0 && duration.seconds.saturating_add(begin) <= 86_400
+        }
+    }
+}
+
+/// For how many days from that of a kept local on the rule of an event most likely keeps no other, as its parts tell at once. A question for the next
+/// is worth its place so long.
+fn days_apart(event: &Event) -> i32 {
     let Some(rule) = &event.rule else {
-        return false;
+        return 0;
     };
     let parts = rule.parts();
-    match parts.frequency {
+    let are_apart = match parts.frequency {
         Frequency::Yearly | Frequency::Monthly => true,
         Frequency::Weekly => parts.interval > 1 || parts.weekdays.is_empty(),
-        _ => false,
+        Frequency::Daily => false,
+        _ => is_once_a_day(parts),
+    };
+    if are_apart {
+        return i32::MAX;
     }
+    i32::from(is_once_a_day(parts) && ends_at_once(event))
 }
 
 /// Drops all that waits. Room that is held for it stays where nothing does.
@@ -341,7 +377,7 @@ fn keep_stretch(
 
 impl<'a> RuleStarts<'a> {
     ghost use Rattle.std.specs.Prelude.{◌≡◌, ◌+◌, ◌-◌, ◌-ℤ◌, ◌<◌, ◌≤ℤ◌, ℕ, false, length, max, slice_get, IfOk, MatchOption, OnOk, Some};
-    ghost use Rattle.ics_rule.specs.Cursors.{steps_of, HasLooked};
+    ghost use Rattle.ics_rule.specs.Cursors.{steps_of};
     ghost use Rattle.ics_listing.specs.Listing.{IsIn};
     ghost use Rattle.ics_listing.specs.Merged.{cut};
     ghost use Rattle.ics_starts.specs.RuleFeed.{held_in, is_unsettled, settled_in, starts_left, HasEnded, HasLeapt, HasSameSource, HasSkipped};
@@ -408,6 +444,7 @@ impl<'a> RuleStarts<'a> {
             spans: None,
             told: TOLD,
             close: close_of(event),
+            apart: days_apart(event),
             held: Queue::new(alloc),
             beyond: Moment::MAX,
         }
@@ -442,8 +479,17 @@ impl<'a> RuleStarts<'a> {
         let place = from.number();
         let asks = asks_from(self.stretch, self.from, from, next);
         let rule = self.rule.get();
-        let counted = furthest(&self.kept, rule, from, mark);
-        begin(&mut self.cursor, rule, from, end, counted.as_ref().or(mark));
+        go_on(
+            &mut self.kept,
+            &mut self.cursor,
+            rule,
+            self.from,
+            self.place,
+            self.asked,
+            from,
+            end,
+            mark,
+        );
         self.zones = zones;
         self.event = event;
         self.window = window;
@@ -565,6 +611,16 @@ impl<'a> RuleStarts<'a> {
                 let moment = instant_in(self.zones, self.stretch, time);
                 let waiting = Waiting { moment, local };
                 hold(&mut self.held, event, self.rule.get(), self.window, waiting)?;
+                let is_past = (self.window.to <= moment) & (self.beyond == Moment::MAX);
+                keep_cursor(
+                    &mut self.kept,
+                    self.rule.get(),
+                    self.from,
+                    &self.cursor,
+                    self.place,
+                    self.asked,
+                    is_past,
+                );
                 self.cursor = cursor;
                 self.place = local.number() + 1;
                 self.day = local.day;
@@ -608,8 +664,8 @@ impl<'a> RuleStarts<'a> {
         }
     }
 
-    /// Passes over all locals to be read, if something is known of the rule, a local was found, and the parts of the rule tell that it keeps no other
-    /// before the end. Whether they do. They tell it for the time after that too.
+    /// Passes over all locals to be read, if something is known of the rule, a local was read, and the parts of the rule tell that it keeps no other
+    /// before the end. Whether they do. They tell it for the time after that too. Where they do not, the cursor knows where the next search begins.
     fn pass_rest(&mut self) -> bool
         requires { is_unsettled self.old ≡ true }
         ensures left { starts_left self.new ≡ starts_left self.old }
@@ -619,11 +675,14 @@ impl<'a> RuleStarts<'a> {
             ≡ steps_left self.old.day self.old.end (place_of self.old.cursor) }
         ensures behind { result ≡ false → is_unsettled self.new ≡ true }
     {
-        if !is_searched(&self.kept) || self.cursor.steps() == 0 || !is_sparse(self.event) {
+        if !is_searched(&self.kept) || self.asked <= self.day {
             return false;
         }
         let bound = self.bound();
         if bound < self.end {
+            return false;
+        }
+        if self.apart < bound.saturating_sub(self.day) {
             return false;
         }
         let to = Local::at(bound, 0);
@@ -919,6 +978,8 @@ impl<'a> RuleStarts<'a> {
     {
         match self.rule.get().until_moment() {
             Some(until) if until < self.window.to => Moment::MAX,
+            // What is still to be read is later than what was read.
+            _ if self.beyond <= self.settled() => self.beyond,
             _ if self.knows_next() => {
                 let to = self.quiet_to(self.none_to);
                 self.put_mark(&self.cursor, to, mark);

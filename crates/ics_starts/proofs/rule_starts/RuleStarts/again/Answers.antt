@@ -4,6 +4,7 @@ use Rattle.std.proofs.lemmas.Int.{int_min_is, ints}
 use Rattle.ics_fields.specs.declared.local.Local.{Local}
 use Rattle.ics_rule.specs.Cursors.{place_of}
 use Rattle.ics_event.specs.declared.event.Event.{Event}
+use Rattle.ics_fields.specs.Days.{IsDayNumber}
 use Rattle.ics_fields.specs.Locals.{local_seconds, midnight, number}
 use Rattle.ics_starts.specs.Clocks.{clock_of, IsBounded}
 use Rattle.ics_listing.specs.StartOrder.{moment_cmp}
@@ -22,7 +23,8 @@ use Rattle.ics_starts.specs.Inner.KeptLocals.{IsKeptOf}
 use Rattle.ics_starts.specs.Quiet.{AreBeyond}
 use Rattle.ics_starts.specs.Starts.{recurrence_of}
 use Rattle.ics_starts.proofs.QuietLemmas.{beyond-begun}
-use Rattle.ics_starts.proofs.RuleStepLemmas.{day-back, most-back, signed-back}
+use Rattle.ics_starts.proofs.KeptLemmas.{kept-rule, kept-same}
+use Rattle.ics_starts.proofs.RuleStepLemmas.{asked-days, day-back, most-back, signed-back}
 use Rattle.ics_starts.proofs.rule_starts.RuleStarts.again.Goals as goal
 
 pub bounds-bounds-requires : goal.bounds-bounds-requires
@@ -45,8 +47,26 @@ end_nearby-end-requires-clause-most c =
     let off = ap (λ (v : Event). seconds_off v.start.stamp) c.event.view_is in
     omega (arith, ints, back, b.ensures.most, off)
 
-pub begin-requires-clause-early : goal.begin-requires-clause-early
-begin-requires-clause-early c =
+pub go_on-requires-clause-kept : goal.go_on-requires-clause-kept
+go_on-requires-clause-kept c =
+    let s = c.args.self.now in
+    rw c.get-rule.ensures (kept-rule s.event.now s.rule s.kept s.rule_of.of s.known)
+
+pub go_on-requires-clause-own : goal.go_on-requires-clause-own
+go_on-requires-clause-own c = rw c.get-rule.ensures c.args.self.now.own
+
+pub go_on-requires-clause-looked : goal.go_on-requires-clause-looked
+go_on-requires-clause-looked c =
+    let s = c.args.self.now in
+    rw c.get-rule.ensures (subst (λ d. HasLookedTo s.rule s.from d s.cursor) (sym (day-back s.asked (asked-days s))) s.looked)
+
+pub go_on-requires-clause-day : goal.go_on-requires-clause-day
+go_on-requires-clause-day c =
+    let s = c.args.self.now in
+    subst IsDayNumber (sym (day-back s.asked (asked-days s))) (asked-days s)
+
+pub go_on-requires-clause-early : goal.go_on-requires-clause-early
+go_on-requires-clause-early c =
     let w = c.args.window in
     let e = c.end_nearby-end.ensures in
     let soon = end-of-window w c.until_moment-until.result c.end_nearby-end.result c.event.view_is e.soon in
@@ -59,7 +79,7 @@ invariant_of-self c =
     let w = c.args.window in
     let e = c.end_nearby-end.ensures in
     let until = rw c.get.ensures at c.until_moment-until.ensures in
-    let begun = rw c.get-rule.ensures at c.begin.ensures.begun in
+    let begun = rw c.get-rule.ensures at c.go_on.ensures.begun in
     let ends = ends-same w until c.event.view_is in
     let off = ap (λ (v : Event). seconds_off v.start.stamp) c.event.view_is in
     let most = end-of-window w c.until_moment-until.result c.end_nearby-end.result c.event.view_is e.soon in
@@ -92,9 +112,9 @@ invariant_of-self c =
       stretched = c.no_stretch-self.ensures _;
       spanned = ∣ tt ∣₁;
       own = begun.own;
-      looked = subst (λ d. HasLookedTo c.args.self.now.rule c.args.from d c.begin.new.cursor) (sym asked) (rw c.get-rule.ensures at c.begin.ensures.looked);
+      looked = subst (λ d. HasLookedTo c.args.self.now.rule c.args.from d c.go_on.new.cursor) (sym asked) (rw c.get-rule.ensures at c.go_on.ensures.looked);
       placed = c.number-place.ensures.value ∙ sym place;
-      known = subst (λ (e : Event). IsKeptOf e s.kept) c.requires.same s.known;
+      known = subst (λ (e : Event). IsKeptOf e c.go_on.new.kept) c.requires.same (kept-same s.event.now s.kept _ c.go_on.ensures.same s.known);
       reached = record {
         read = omega (arith, ints, place, day, end, from, min, int_min_is, day-from.0, day-from.1, e.day.0, e.day.1);
         next_read = begun-next c.args.from day-from e.day (asked ∙ ap (int_min c.args.from.day) end) next place;
@@ -110,9 +130,9 @@ invariant_of-self c =
     }
 
 pub returns-clause-begun : goal.returns-clause-begun
-returns-clause-begun c = rw c.get-rule.ensures at c.begin.ensures.begun
+returns-clause-begun c = rw c.get-rule.ensures at c.go_on.ensures.begun
 
 pub returns-clause-left : goal.returns-clause-left
 returns-clause-left c =
     come-empty c.args.zones c.args.event.now c.args.self.now.rule c.args.window (starts_in c.args.event.now.start c.clear.new.held)
-    (place_of c.begin.new.cursor) (number c.args.from) (ap (map (start_of c.args.event.now.start)) c.clear.ensures) c.begin.ensures.begun.place
+    (place_of c.go_on.new.cursor) (number c.args.from) (ap (map (start_of c.args.event.now.start)) c.clear.ensures) c.go_on.ensures.begun.place

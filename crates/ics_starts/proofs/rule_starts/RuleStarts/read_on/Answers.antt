@@ -6,16 +6,17 @@ use Rattle.ics_listing.specs.StartOrder.{moment_cmp}
 use Rattle.ics_listing.specs.StartTimes.{time_at}
 use Rattle.ics_listing.specs.Rising.{Rises}
 use Rattle.ics_starts.specs.Clocks.{clock_of, instant, AreSpansOf, IsStretched}
-use Rattle.ics_starts.specs.RuleStarts.{AreHeld}
+use Rattle.ics_starts.specs.RuleStarts.{AreHeld, HasLookedTo}
 use Rattle.ics_starts.specs.declared.rule_starts.RuleStarts.{RuleStarts}
 use Rattle.ics_zone.specs.declared.spans.Spans.{Spans}
 use Rattle.ics_starts.specs.FileZones.{clocks_in, IsTimeOf}
 use Rattle.ics_starts.specs.RuleFeed.{held_in}
 use Rattle.ics_listing.specs.Waiting.{starts_in}
 use Rattle.ics_starts.proofs.QuietLemmas.{beyond-none, beyond-one}
-use Rattle.ics_starts.proofs.RuleStepLemmas.{bound-days, bound-early, none-read, one-moment, one-read, one-time, told-known}
+use Rattle.ics_starts.proofs.RuleStepLemmas.{asked-days, bound-days, bound-early, day-back, none-read, one-moment, one-read, one-time, told-known}
 use Rattle.ics_starts.proofs.StretchLemmas.{stretched-at}
 use Rattle.ics_starts.proofs.KeptLemmas.{kept-rule, kept-same}
+use Rattle.ics_fields.specs.Days.{IsDayNumber}
 use Rattle.ics_fields.specs.Locals.{number}
 use Rattle.ics_starts.proofs.rule_starts.RuleStarts.read_on.Goals as goal
 
@@ -178,12 +179,33 @@ invariant_of-self-in-Some c =
       looked = λ before m.
           (rw c.get.ensures at c.in-Some.ensures.looked) (number s.from) before (omega (arith, r.before, m)) (s.looked before (omega (arith, r.before, m)));
       placed = omega (arith, c.in-Some.ensures.next.1, c.number-in-Some.ensures.value);
-      known = kept-same s.event.now s.kept _ c.next.ensures.same s.known;
+      known = kept-same s.event.now _ _ c.keep_cursor.ensures.same (kept-same s.event.now s.kept _ c.next.ensures.same s.known);
       reached = r.reached;
       early = s.early;
       none = s.none;
       none_day = s.none_day;
     }
+
+pub keep_cursor-requires-clause-kept : goal.keep_cursor-requires-clause-kept
+keep_cursor-requires-clause-kept c =
+    let s = c.args.self.now in
+    rw c.get-in-Some-2.ensures (kept-rule s.event.now s.rule _ s.rule_of.of (kept-same s.event.now s.kept _ c.next.ensures.same s.known))
+
+pub keep_cursor-requires-clause-own : goal.keep_cursor-requires-clause-own
+keep_cursor-requires-clause-own c = rw c.get-in-Some-2.ensures c.args.self.now.own
+
+pub keep_cursor-requires-clause-looked : goal.keep_cursor-requires-clause-looked
+keep_cursor-requires-clause-looked c =
+    let s = c.args.self.now in
+    rw c.get-in-Some-2.ensures (subst (λ d. HasLookedTo s.rule s.from d s.cursor) (sym (day-back s.asked (asked-days s))) s.looked)
+
+pub keep_cursor-requires-clause-day : goal.keep_cursor-requires-clause-day
+keep_cursor-requires-clause-day c =
+    let s = c.args.self.now in
+    subst IsDayNumber (sym (day-back s.asked (asked-days s))) (asked-days s)
+
+pub overflow_add-self-in-Some-2 : goal.overflow_add-self-in-Some-2
+overflow_add-self-in-Some-2 c = omega (arith, ints, c.in-Some.ensures.day.0, c.in-Some.ensures.day.1)
 
 pub returns-in-None : goal.returns-in-None
 returns-in-None c =
