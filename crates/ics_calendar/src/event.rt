@@ -2,12 +2,12 @@
 ghost use Rattle.std.specs.Prelude.{◌≡◌, [], map, unwrap_or, IfOk};
 ghost use Rattle.std.specs.Option.{option_and_then};
 ghost use Rattle.ics_values.specs.Times.{map_time, map_length, map_rdate, start_of};
-ghost use Rattle.ics_calendar.specs.Events.{given_length, start_in, zone_at};
+ghost use Rattle.ics_calendar.specs.Events.{event_of, given_length, start_in, zone_at};
 ghost use Rattle.ics_calendar.specs.Settled.{event_in, IsReady};
 ghost use Rattle.ics_calendar.specs.ZoneTables.{known_by};
 
 use crate::zone_table::ZoneTable;
-use ics_components::{CalendarEvent, Listed, Tzid, ZoneName};
+use ics_components::{CalendarEvent, EventFields, Listed, Tzid, ZoneName};
 use ics_event::Event;
 use ics_values::{Duration, Length, Rdate, Stamp, Text, Time};
 use std::alloc::{AllocError, Global};
@@ -134,12 +134,16 @@ fn text_in(alloc: Global, text: Option<Text>) -> Text
     }
 }
 
-/// The event, where no fault stands on its lines.
-pub fn event_of(alloc: Global, table: &ZoneTable, ended: CalendarEvent) -> Result<Event, AllocError>
-    requires { IsReady (known_by table.now) ended }
-    ensures { IfOk result (λ event. event ≡ event_in (known_by table.now).index ended) }
+/// The event of a calendar with these fields, where no fault stands on its lines.
+fn event_with(
+    alloc: Global,
+    table: &ZoneTable,
+    calendar: u64,
+    fields: EventFields,
+) -> Result<Event, AllocError>
+    requires { IsReady (known_by table.now) (record { calendar = calendar; fields = fields }) }
+    ensures { IfOk result (λ event. event ≡ event_of (known_by table.now).index calendar fields) }
 {
-    let CalendarEvent { calendar, fields } = ended;
     let texts = fields.texts;
     Ok(Event {
         start: time_of(table, calendar, start_in(fields.start)),
@@ -156,4 +160,13 @@ pub fn event_of(alloc: Global, table: &ZoneTable, ended: CalendarEvent) -> Resul
         cancelled: fields.cancelled.unwrap_or(false),
         url: text_in(alloc, texts.url),
     })
+}
+
+/// The event, where no fault stands on its lines.
+pub fn event_of(alloc: Global, table: &ZoneTable, ended: CalendarEvent) -> Result<Event, AllocError>
+    requires { IsReady (known_by table.now) ended }
+    ensures { IfOk result (λ event. event ≡ event_in (known_by table.now).index ended) }
+{
+    let CalendarEvent { calendar, fields } = ended;
+    event_with(alloc, table, calendar, fields.into_fields(alloc))
 }

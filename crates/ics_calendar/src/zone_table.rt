@@ -107,11 +107,11 @@ impl ZoneTable {
         ensures { known_by self.new ≡ known_by self.old }
     {
         let fields = &event.fields;
-        self.note_some(event.calendar, &fields.start, Moment::MAX);
-        self.note_some(event.calendar, &fields.end, end);
-        self.note_some(event.calendar, &fields.recurrence, end);
-        self.note_dates(event.calendar, &fields.rdates.values, end);
-        self.note_dates(event.calendar, &fields.exdates.values, end);
+        self.note_some(event.calendar, fields.start(), Moment::MAX);
+        self.note_some(event.calendar, fields.end(), end);
+        self.note_some(event.calendar, fields.recurrence(), end);
+        self.note_dates(event.calendar, fields.rdates(), end);
+        self.note_dates(event.calendar, fields.exdates(), end);
     }
 
     /// The zones take note of the locals of RDATEs or EXDATEs.
@@ -131,7 +131,7 @@ impl ZoneTable {
     }
 
     /// The zone takes note of a local, if there is one.
-    fn note_some(&mut self, calendar: u64, time: &Option<Time<Tzid>>, end: Moment)
+    fn note_some(&mut self, calendar: u64, time: Option<&Time<Tzid>>, end: Moment)
         ensures { known_by self.new ≡ known_by self.old }
     {
         if let Some(time) = time {

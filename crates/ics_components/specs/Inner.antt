@@ -7,3 +7,4 @@ pub mod Passing
 pub mod BareLines
 pub mod FrontParts
 pub mod FrontedRound
+pub mod KeptFields

@@ -11,7 +11,7 @@ use crate::fault::FaultKind;
 use crate::listed::Listed;
 use crate::name::Name;
 use crate::observance_builder::ObservanceBuilder;
-use crate::open_event::OpenEvent;
+use crate::open_event::{FreePlace, OpenEvent};
 use crate::parsed_file::{CalendarZone, ClosedComponent, LineResult};
 use crate::refused::Refused;
 use crate::tzid::{Tzid, Tzids};
@@ -93,13 +93,17 @@ impl Builder {
         }
     }
 
-    /// What a component has that has only begun, by where its lines stand.
-    pub fn fresh(alloc: Global, context: Context) -> Result<Builder, AllocError>
+    /// What a component has that has only begun, by where its lines stand. An event takes the place that is free, if there is one.
+    pub fn fresh(
+        alloc: Global,
+        free: &mut Option<FreePlace>,
+        context: Context,
+    ) -> Result<Builder, AllocError>
         ensures { IfOk result (λ builder. builder ≡ builder_at [] [] context) }
     {
         Ok(match context {
             Context::Calendar => Builder::Calendar,
-            Context::Event => Builder::Event(OpenEvent::begun(alloc)?),
+            Context::Event => Builder::Event(OpenEvent::begun(alloc, free.take())?),
             Context::Zone => Builder::Zone(ZoneBuilder {
                 name: None,
                 observances: Listed {

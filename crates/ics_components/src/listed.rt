@@ -1,7 +1,7 @@
 //! Values in their order.
-ghost use Rattle.std.specs.Prelude.{◌≡◌, ◌++◌, IfOk};
+ghost use Rattle.std.specs.Prelude.{◌≡◌, ◌++◌, [], IfOk};
 
-use std::alloc::AllocError;
+use std::alloc::{AllocError, Global};
 use std::marker::Model;
 
 /// Several values in their order, seen as a list.
@@ -19,6 +19,15 @@ impl<T> Model for Listed<T> {
 }
 
 impl<T: Drop> Listed<T> {
+    /// No values.
+    pub(crate) fn nothing(alloc: Global) -> Listed<T>
+        ensures { result ≡ [] }
+    {
+        Listed {
+            values: Vec::new(alloc),
+        }
+    }
+
     /// Adds more values behind these. Where there are none yet, no memory is asked for.
     pub(crate) fn append(&mut self, more: Listed<T>) -> Result<(), AllocError>
         ensures { IfOk result (λ _. self.new ≡ self.old ++ more) }

@@ -3,6 +3,7 @@ ghost use Rattle.std.specs.Prelude.{◌≡◌, [], IfOk};
 ghost use Rattle.ics_components.specs.Builders.{collected_of};
 
 use crate::event_fields::EventFields;
+use crate::kept_fields::KeptFields;
 use crate::parsed_file::CalendarEvent;
 use std::alloc::{AllocError, Global};
 use std::marker::Model;
@@ -22,12 +23,22 @@ impl Model for OpenEvent {
     ghost view = { λ a. a.fields.value };
 }
 
+/// The place in memory of an event that has ended and was added, for the next one.
+#[derive(Drop)]
+pub struct FreePlace {
+    fields: Box<EventFields>,
+    ghost empty: { fields.value ≡ collected_of [] },
+}
+
 impl OpenEvent {
-    /// What an event has that has only begun.
-    pub fn begun(alloc: Global) -> Result<OpenEvent, AllocError>
+    /// What an event has that has only begun, in a place that is free, if there is one.
+    pub fn begun(alloc: Global, free: Option<FreePlace>) -> Result<OpenEvent, AllocError>
         ensures { IfOk result (λ event. event ≡ collected_of []) }
     {
-        let fields = Box::new(alloc, EventFields::nothing(alloc))?;
+        let fields = match free {
+            Some(free) => free.fields,
+            None => Box::new(alloc, EventFields::nothing(alloc))?,
+        };
         Ok(OpenEvent { fields })
     }
 }
@@ -48,12 +59,17 @@ impl Model for EndedEvent {
 }
 
 impl EndedEvent {
-    /// The event itself. Its place in memory is free for the next one.
-    pub fn into_event(self) -> CalendarEvent
-        ensures { result ≡ self }
+    /// The event itself, in little memory. Its place in memory is free for the next one.
+    pub fn into_event(self, alloc: Global) -> Result<(CalendarEvent, FreePlace), AllocError>
+        ensures { IfOk result (λ event. event.0 ≡ self) }
     {
         let EndedEvent { calendar, event } = self;
-        let fields = Box::into_inner(event.fields);
-        CalendarEvent { calendar, fields }
+        let mut fields = event.fields;
+        let kept = KeptFields::taken(alloc, &mut fields)?;
+        let event = CalendarEvent {
+            calendar,
+            fields: kept,
+        };
+        Ok((event, FreePlace { fields }))
     }
 }

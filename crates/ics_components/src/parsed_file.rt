@@ -5,9 +5,9 @@ ghost use Rattle.ics_components.specs.Lines.{line_result};
 ghost use Rattle.ics_components.specs.declared.parsed_file.ClosedComponent.TheVariants.{Nothing};
 
 use crate::deferred_check::{DeferredCheck, ZoneName};
-use crate::event_fields::EventFields;
+use crate::kept_fields::KeptFields;
 use crate::listed::Listed;
-use crate::open_event::EndedEvent;
+use crate::open_event::{EndedEvent, FreePlace};
 use ics_values::Observance;
 use std::alloc::{AllocError, Global};
 use std::marker::Model;
@@ -23,7 +23,7 @@ pub struct CalendarZone {
 #[derive(Drop)]
 pub struct CalendarEvent {
     pub calendar: u64,
-    pub fields: EventFields,
+    pub fields: KeptFields,
 }
 
 /// What ends on a line, if it is a component that is read.
@@ -101,16 +101,24 @@ impl ParsedFile {
         Ok(parsed)
     }
 
-    /// Adds what ends on a line.
-    fn end(&mut self, ended: ClosedComponent) -> Result<(), AllocError>
+    /// Adds what ends on a line, and answers the place in memory that is free then, if there is one.
+    fn end(
+        &mut self,
+        alloc: Global,
+        ended: ClosedComponent,
+    ) -> Result<Option<FreePlace>, AllocError>
         ensures { IfOk result (λ _. self.new ≡ and_ended ended self.old) }
     {
         match ended {
             ClosedComponent::Zone(zone) => self.zones.push(zone)?,
-            ClosedComponent::Event(event) => self.events.push(event.into_event())?,
+            ClosedComponent::Event(event) => {
+                let (event, free) = event.into_event(alloc)?;
+                self.events.push(event)?;
+                return Ok(Some(free));
+            }
             ClosedComponent::Nothing => {}
         }
-        Ok(())
+        Ok(None)
     }
 
     /// Adds the check of the line with that number.
@@ -125,18 +133,20 @@ impl ParsedFile {
         Ok(())
     }
 
-    /// Adds what is gathered on the line with that number.
-    pub(crate) fn pass(&mut self, number: u64, line_result: LineResult) -> Result<(), AllocError>
+    /// Adds what is gathered on the line with that number, and answers the place in memory that is free then, if there is one.
+    pub(crate) fn pass(
+        &mut self,
+        alloc: Global,
+        number: u64,
+        line_result: LineResult,
+    ) -> Result<Option<FreePlace>, AllocError>
         ensures { IfOk result (λ _. self.new ≡ and_line number line_result self.old) }
     {
         let LineResult { ended, check } = line_result;
-        if let Err(error) = self.end(ended) {
-            drop(check);
-            return Err(error);
+        let free = self.end(alloc, ended)?;
+        if let Some(check) = check {
+            self.check(number, check)?;
         }
-        match check {
-            Some(check) => self.check(number, check),
-            None => Ok(()),
-        }
+        Ok(free)
     }
 }

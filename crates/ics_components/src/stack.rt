@@ -14,6 +14,7 @@ use crate::component::{Component, Context};
 use crate::fault::FaultKind;
 use crate::frame::Frame;
 use crate::name::Name;
+use crate::open_event::FreePlace;
 use crate::parsed_file::ParsedFile;
 use crate::refused::Refused;
 use crate::tzid::Tzids;
@@ -31,6 +32,7 @@ pub struct Stack {
     top: Frame,
     outer: Vec<Frame>,
     tzids: Tzids,
+    free: Option<FreePlace>,
 }
 
 impl Model for Stack {
@@ -51,6 +53,7 @@ impl Stack {
             top: Frame::bottom(alloc),
             outer: Vec::new(alloc),
             tzids: Tzids::new(alloc),
+            free: None,
         }
     }
 
@@ -120,7 +123,7 @@ impl Stack {
         if self.outer.len() >= MAX_DEPTH {
             return Err(Refused::Fault(FaultKind::TooDeep));
         }
-        let builder = Builder::fresh(alloc, component.context_in(context))?;
+        let builder = Builder::fresh(alloc, &mut self.free, component.context_in(context))?;
         let inner = Frame {
             component,
             calendar,
@@ -136,6 +139,7 @@ impl Stack {
     #[tactic(auto, using(crate::proofs::Judgements::leaves_same), unfolding(crate::specs::Lines::least_fault))]
     fn end(
         &mut self,
+        alloc: Global,
         parsed: &mut ParsedFile,
         number: u64,
         content: &Content<'_>,
@@ -149,7 +153,9 @@ impl Stack {
         };
         let inner = mem::replace(&mut self.top, outer);
         let line_result = inner.end(&mut self.top.builder, content.value())?;
-        parsed.pass(number, line_result)?;
+        if let Some(free) = parsed.pass(alloc, number, line_result)? {
+            self.free = Some(free);
+        }
         Ok(())
     }
 
@@ -179,7 +185,7 @@ impl Stack {
     {
         match name {
             Name::Begin => self.begin(alloc, number, content),
-            Name::End => self.end(parsed, number, content),
+            Name::End => self.end(alloc, parsed, number, content),
             _ if self.is_lowest() => Err(Refused::Fault(FaultKind::NotCalendar)),
             // most lines of long files are of properties that are not read
             Name::Other => Ok(()),
