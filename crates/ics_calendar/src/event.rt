@@ -8,7 +8,7 @@ ghost use Rattle.ics_calendar.specs.ZoneTables.{known_by};
 
 use crate::zone_table::ZoneTable;
 use ics_components::{CalendarEvent, EventFields, Listed, Tzid, ZoneName};
-use ics_event::Event;
+use ics_event::{Event, More};
 use ics_values::{Duration, Length, Rdate, Stamp, Text, Time};
 use std::alloc::{AllocError, Global};
 
@@ -145,20 +145,23 @@ fn event_with(
     ensures { IfOk result (λ event. event ≡ event_of (known_by table.now).index calendar fields) }
 {
     let texts = fields.texts;
+    let more = More {
+        cancelled: fields.cancelled.unwrap_or(false),
+        rdates: rdates_of(alloc, table, calendar, fields.rdates)?,
+        exdates: exdates_of(alloc, table, calendar, fields.exdates)?,
+        location: text_in(alloc, texts.location),
+        description: text_in(alloc, texts.description),
+        url: text_in(alloc, texts.url),
+    };
     Ok(Event {
         start: time_of(table, calendar, start_in(fields.start)),
         length: length_of(table, calendar, given_length(fields.end, fields.duration)),
         rule: fields.rule,
-        rdates: rdates_of(alloc, table, calendar, fields.rdates)?,
-        exdates: exdates_of(alloc, table, calendar, fields.exdates)?,
-        recurrence: fields.recurrence.map(|time| time_of(table, calendar, time)),
         uid: text_in(alloc, fields.uid),
         sequence: fields.sequence.unwrap_or(0),
         title: text_in(alloc, texts.title),
-        location: text_in(alloc, texts.location),
-        description: text_in(alloc, texts.description),
-        cancelled: fields.cancelled.unwrap_or(false),
-        url: text_in(alloc, texts.url),
+        recurrence: fields.recurrence.map(|time| time_of(table, calendar, time)),
+        more: more.boxed(alloc)?,
     })
 }
 

@@ -1,9 +1,9 @@
-ghost use Rattle.std.specs.Prelude.{◌≡◌};
-ghost use Rattle.ics_event.specs.Event.{texts_in};
+ghost use Rattle.std.specs.Prelude.{◌≡◌, All};
+ghost use Rattle.ics_event.specs.Event.{texts_in, IsRdate, IsTime};
 ghost use Rattle.ics_event.specs.Kept.{kept_event};
-ghost use Rattle.ics_values.specs.KeptTexts.{kept_text};
 ghost use Rattle.ics_values.specs.TextNames.{text_at};
 
+use crate::more::{More, keep_text, more_kept};
 use crate::time::{Length, Rdate, Time};
 use ics_values::{KeptRule, KeptTexts, Text, TextName};
 use std::alloc::Global;
@@ -22,24 +22,17 @@ pub struct Event {
     pub length: Length,
     /// The recurrence rule that RRULE gives (RFC 5545, section 3.8.5.3).
     pub rule: Option<KeptRule>,
-    /// The values of its RDATEs, in the order of the file (RFC 5545, section 3.8.5.2).
-    pub rdates: Vec<Rdate>,
-    /// The values of its EXDATEs, which remove starts, in the order of the file (RFC 5545, section 3.8.5.1).
-    pub exdates: Vec<Time>,
-    /// RECURRENCE-ID. An event with one is an override: it replaces that instance of the event with its UID and without one.
-    pub recurrence: Option<Time>,
     /// SUMMARY, or the empty text.
     pub title: Text,
-    pub location: Text,
-    pub description: Text,
-    /// Whether its STATUS is `CANCELLED`.
-    pub cancelled: bool,
-    /// The value of its first URL as it stands, or the empty text (RFC 5545, section 3.8.4.6).
-    pub url: Text,
+    /// RECURRENCE-ID. An event with one is an override: it replaces that instance of the event with its UID and without one.
+    pub recurrence: Option<Time>,
+    /// Its RDATEs, EXDATEs, LOCATION, DESCRIPTION and URL, and that it is cancelled, if it has any of these.
+    pub more: Option<Box<More>>,
 }
 
 impl Model for Event {
     ghost use Rattle.ics_event.specs.Event.{EventSeen, IsEvent};
+    ghost use Rattle.ics_event.specs.More.{more_in};
 
     ghost Value = { EventSeen };
 
@@ -49,14 +42,14 @@ impl Model for Event {
       start = a.start;
       length = a.length;
       rule = a.rule;
-      rdates = a.rdates.items;
-      exdates = a.exdates.items;
+      rdates = (more_in a.more).rdates;
+      exdates = (more_in a.more).exdates;
       recurrence = a.recurrence;
       title = a.title;
-      location = a.location;
-      description = a.description;
-      cancelled = a.cancelled;
-      url = a.url;
+      location = (more_in a.more).location;
+      description = (more_in a.more).description;
+      cancelled = (more_in a.more).cancelled;
+      url = (more_in a.more).url;
     } };
 
     ghost invariant = { λ a. IsEvent (record {
@@ -65,36 +58,62 @@ impl Model for Event {
       start = a.start;
       length = a.length;
       rule = a.rule;
-      rdates = a.rdates.items;
-      exdates = a.exdates.items;
+      rdates = (more_in a.more).rdates;
+      exdates = (more_in a.more).exdates;
       recurrence = a.recurrence;
       title = a.title;
-      location = a.location;
-      description = a.description;
-      cancelled = a.cancelled;
-      url = a.url;
+      location = (more_in a.more).location;
+      description = (more_in a.more).description;
+      cancelled = (more_in a.more).cancelled;
+      url = (more_in a.more).url;
     }) };
 }
 
-/// Empties a text that is not kept.
-fn keep_text(alloc: Global, keep: bool, text: &mut Text)
-    ensures { text.new ≡ kept_text keep text.old }
-{
-    if !keep {
-        *text = Text::new(alloc);
-    }
-}
-
 impl Event {
-    /// The text of a property.
-    pub fn text(&self, name: TextName) -> &Text
+    /// Whether its STATUS is `CANCELLED`.
+    pub fn is_cancelled(&self) -> bool
+        ensures { result ≡ self.now.cancelled }
+    {
+        match &self.more {
+            None => false,
+            Some(more) => more.cancelled,
+        }
+    }
+
+    /// The values of its RDATEs, in the order of the file (RFC 5545, section 3.8.5.2).
+    #[inline]
+    pub fn rdates(&self) -> &[Rdate]
+        ensures value { result.now ≡ self.now.rdates }
+        ensures sound { All IsRdate result.now }
+    {
+        match &self.more {
+            None => &[],
+            Some(more) => more.rdates.as_slice(),
+        }
+    }
+
+    /// The values of its EXDATEs, which remove starts, in the order of the file (RFC 5545, section 3.8.5.1).
+    #[inline]
+    pub fn exdates(&self) -> &[Time]
+        ensures value { result.now ≡ self.now.exdates }
+        ensures sound { All IsTime result.now }
+    {
+        match &self.more {
+            None => &[],
+            Some(more) => more.exdates.as_slice(),
+        }
+    }
+
+    /// The text of a property, or the empty text.
+    pub fn text(&self, name: TextName) -> &[u8]
         ensures { result.now ≡ text_at name (texts_in self.now) }
     {
-        match name {
-            TextName::Summary => &self.title,
-            TextName::Location => &self.location,
-            TextName::Description => &self.description,
-            TextName::Url => &self.url,
+        if let TextName::Summary = name {
+            return self.title.as_slice();
+        }
+        match &self.more {
+            None => &[],
+            Some(more) => more.text(name),
         }
     }
 
@@ -103,8 +122,6 @@ impl Event {
         ensures { self.new ≡ kept_event keep self.old }
     {
         keep_text(alloc, keep.title, &mut self.title);
-        keep_text(alloc, keep.location, &mut self.location);
-        keep_text(alloc, keep.description, &mut self.description);
-        keep_text(alloc, keep.url, &mut self.url);
+        self.more = more_kept(alloc, keep, self.more.take());
     }
 }

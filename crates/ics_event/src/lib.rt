@@ -2,8 +2,10 @@
 #![tactic(auto)]
 
 mod event;
+mod more;
 mod time;
 
 pub use event::Event;
 pub use ics_values::{KeptRule, KeptTexts, Text, TextName, is_zoned};
+pub use more::More;
 pub use time::{Length, Rdate, Time};

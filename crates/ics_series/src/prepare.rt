@@ -93,7 +93,7 @@ fn note_shown(display: &mut Display, event: &Event, window: &Window, every_day: 
 fn note_shown_dates(display: &mut Display, event: &Event, window: &Window)
     ensures { display.new ≡ display.old }
 {
-    for rdate in &event.rdates {
+    for rdate in event.rdates() {
         let Some(lasting) = lasting_date(event, *rdate, window) else {
             continue;
         };
@@ -107,7 +107,7 @@ fn note_shown_dates(display: &mut Display, event: &Event, window: &Window)
 /// Whether an event may ask for so many instants in a long window that it is worth while to find the stretches there: if it recurs often, has many
 /// RDATEs, or lasts long.
 fn asks_often(event: &Event) -> bool {
-    if event.rdates.len() > FEW || lasting_of(event) >= SHORT {
+    if event.rdates().len() > FEW || lasting_of(event) >= SHORT {
         return true;
     }
     match &event.rule {
@@ -220,7 +220,7 @@ fn note_spans(zone: &mut Zone, event: &Event, from: Moment, to: Moment)
 
 /// Whether an event starts once, has many RDATEs, or recurs often.
 fn asks_for_many(event: &Event) -> bool {
-    if event.rdates.len() > FEW || is_single(event) {
+    if event.rdates().len() > FEW || is_single(event) {
         return true;
     }
     match &event.rule {
@@ -286,7 +286,7 @@ fn note_through_dates(zones: &mut [Zone], event: &Event, window: &Window) -> boo
     ensures { zones.new ≡ zones.old }
 {
     let mut any = false;
-    for rdate in &event.rdates {
+    for rdate in event.rdates() {
         let Some(lasting) = lasting_date(event, *rdate, window) else {
             continue;
         };
@@ -316,7 +316,7 @@ fn reach_dates(file: &mut FileEvents, window: &Window)
 fn reach_each(zones: &mut [Zone], event: &Event, window: &Window)
     ensures { zones.new ≡ zones.old }
 {
-    for rdate in &event.rdates {
+    for rdate in event.rdates() {
         if let Some(lasting) = lasting_date(event, *rdate, window) {
             reach_at(zones, place_of(event.start), lasting.first);
             reach_at(zones, lasting.place, lasting.first);
@@ -441,7 +441,7 @@ fn note_rdates(zones: &mut [Zone], event: &Event)
         Length::Open | Length::Until(_) => 0,
         Length::Lasting(length) => days_of(length),
     };
-    for rdate in &event.rdates {
+    for rdate in event.rdates() {
         match *rdate {
             Rdate::At(time) => {
                 note(zones, time, 0);
@@ -464,7 +464,7 @@ fn note_rdates(zones: &mut [Zone], event: &Event)
 fn note_exdates(zones: &mut [Zone], event: &Event)
     ensures { zones.new ≡ zones.old }
 {
-    for time in &event.exdates {
+    for time in event.exdates() {
         note(zones, *time, 0);
     }
 }

@@ -72,7 +72,7 @@ impl DatesByLocal {
     pub(crate) fn new(alloc: Global, event: &Event) -> Result<Option<Box<DatesByLocal>>, AllocError>
         ensures { IfOk result (HasDates event.now) }
     {
-        if event.exdates.len() <= FEW && event.rdates.len() <= FEW {
+        if event.exdates().len() <= FEW && event.rdates().len() <= FEW {
             return Ok(None);
         }
         let dates = DatesByLocal {
@@ -90,7 +90,7 @@ fn exdates_by_local(alloc: Global, event: &Event) -> Result<Vec<PlacedLocal>, Al
     ensures { IfOk result (λ places. AreByLocal (exdate_locals event.now) places.items) }
 {
     let mut places = Vec::new(alloc);
-    for (place, exdate) in event.exdates.iter().enumerate() {
+    for (place, exdate) in event.exdates().iter().enumerate() {
         let local = local_of(exdate.stamp).seconds();
         places.push(PlacedLocal { local, place })?;
     }
@@ -103,7 +103,7 @@ fn rdates_by_local(alloc: Global, event: &Event) -> Result<Vec<PlacedLocal>, All
     ensures { IfOk result (λ places. AreByLocal (rdate_locals event.now) places.items) }
 {
     let mut places = Vec::new(alloc);
-    for (place, rdate) in event.rdates.iter().enumerate() {
+    for (place, rdate) in event.rdates().iter().enumerate() {
         let given = given_by(event.start, *rdate);
         let local = local_of(time_of(given).stamp).seconds();
         places.push(PlacedLocal { local, place })?;
@@ -117,7 +117,7 @@ fn longest(event: &Event) -> i64
     ensures { AreLastingBy event.now result }
 {
     let mut most = 0;
-    for rdate in &event.rdates {
+    for rdate in event.rdates() {
         if let Rdate::Span(start, length) = given_by(event.start, *rdate) {
             let local = local_of(start.stamp).seconds();
             most = most.max(span_local(start, length) - local);
@@ -145,7 +145,7 @@ fn lasts(alloc: Global, event: &Event) -> Result<Vec<Moment>, AllocError>
     ensures { IfOk result (λ lasts. AreEndedBy event.now lasts.items) }
 {
     let mut lasts = Vec::new(alloc);
-    for rdate in &event.rdates {
+    for rdate in event.rdates() {
         lasts.push(last_of(given_by(event.start, *rdate)))?;
     }
     Ok(lasts)
@@ -271,7 +271,7 @@ pub(crate) fn near_spans<'a>(
     ensures { AreSpansNear event.now by to result }
 {
     match dates {
-        None => Places::All(event.rdates.len()),
+        None => Places::All(event.rdates().len()),
         Some(dates) => Places::Near(between(&dates.rdates, by - dates.longest, to)),
     }
 }
@@ -287,7 +287,7 @@ pub(crate) fn next_rdates<'a>(
     ensures { AreNext (rdate_locals event.now) from result }
 {
     match dates {
-        None => Places::All(event.rdates.len()),
+        None => Places::All(event.rdates().len()),
         Some(dates) => Places::Near(next_of(&dates.rdates, from)),
     }
 }

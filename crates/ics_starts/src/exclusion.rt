@@ -65,9 +65,10 @@ impl Exclusions {
         ensures { IfOk result (λ exclusions. AreExclusions (clocks_in zones.entry) event.now window.now
             exclusions.from exclusions.running.items exclusions.instants.items exclusions.days.items) }
     {
+        let exdates = event.exdates();
         let mut instants = Vec::new(alloc);
         let mut days = Vec::new(alloc);
-        if event.exdates.is_empty() {
+        if exdates.is_empty() {
             return Ok(Exclusions {
                 from,
                 running,
@@ -76,7 +77,7 @@ impl Exclusions {
             });
         }
         let given = near_exdates(alloc, dates, event, from, &running, window.to)?;
-        let near = or_all(&given, event.exdates.len());
+        let near = or_all(&given, exdates.len());
         for k in 0..near.count() {
             push_exdate(
                 &mut instants,
@@ -84,7 +85,7 @@ impl Exclusions {
                 zones,
                 known,
                 event.start,
-                event.exdates[near.at(k)],
+                exdates[near.at(k)],
                 window,
                 from,
                 &running,
@@ -317,7 +318,7 @@ pub(crate) fn is_excluded(zones: FileZones<'_>, event: &Event, moment: Moment) -
     ensures { result ≡ is_excluded (clocks_in zones.entry) event.now moment }
 {
     let day = shown_day(zones, event.start, moment);
-    for exdate in &event.exdates {
+    for exdate in event.exdates() {
         if excludes(zones, event.start, *exdate, moment, day) {
             return true;
         }

@@ -87,7 +87,8 @@ pub struct KeptLocals<'a> {
 
 /// Whether an event or one of its PERIODs lasts so long that many days are searched for its starts again.
 fn is_long(event: &Event) -> bool {
-    is_long_from(event.start, event.length) || event.rdates.iter().any(|rdate| is_long_span(*rdate))
+    is_long_from(event.start, event.length)
+        || event.rdates().iter().any(|rdate| is_long_span(*rdate))
 }
 
 /// Whether a value of an RDATE is a PERIOD that lasts so long.

@@ -128,6 +128,7 @@ pub(crate) fn running(
     }
     let by = window.from - OVER;
     let near = near_spans(dates, event, by, from + TWO_DAYS);
+    let rdates = event.rdates();
     for k in 0..near.count() {
         let place = near.at(k);
         if has_ended(dates, place, by) {
@@ -137,7 +138,7 @@ pub(crate) fn running(
             &mut running,
             zones,
             known,
-            given_by(event.start, event.rdates[place]),
+            given_by(event.start, rdates[place]),
             window,
             since,
             from,
@@ -256,7 +257,7 @@ pub(crate) fn push_listed(
         ≡ starts.old.items ++ listed_from (clocks_in zones.entry) window.now since from event.now 0 event.now.rdates) }
 {
     let given = near_rdates(alloc, dates, event, from, running, window.to)?;
-    let near = or_all(&given, event.rdates.len());
+    let near = or_all(&given, event.rdates().len());
     push_at(
         starts, zones, known, event, window, since, from, running, near,
     )
@@ -284,6 +285,7 @@ fn push_at(
     ensures starts { IfOk result (λ _. starts.new.items
         ≡ starts.old.items ++ listed_from (clocks_in zones.entry) window.now since from event.now 0 event.now.rdates) }
 {
+    let rdates = event.rdates();
     let mut next = 0;
     for k in 0..near.count() {
         let place = near.at(k);
@@ -291,7 +293,7 @@ fn push_at(
             continue;
         }
         next = place + 1;
-        let given = given_by(event.start, event.rdates[place]);
+        let given = given_by(event.start, rdates[place]);
         let Some(moment) = counted(zones, known, time_of(given), window, from, running) else {
             continue;
         };
@@ -319,10 +321,11 @@ pub(crate) fn listed_again(
     requires from { IsMoment from }
     ensures { AreListedAgain (clocks_in zones.entry) event.now from result }
 {
+    let rdates = event.rdates();
     let near = next_rdates(dates, event, from);
     let mut least = lesser_again(zones, from, Moment::MAX, event.start);
     for k in 0..near.count() {
-        let given = given_by(event.start, event.rdates[near.at(k)]);
+        let given = given_by(event.start, rdates[near.at(k)]);
         least = lesser_again(zones, from, least, time_of(given));
     }
     least

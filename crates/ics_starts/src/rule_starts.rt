@@ -878,7 +878,7 @@ impl<'a> RuleStarts<'a> {
         ensures { HasSkipped exclusions.now.instants.items exclusions.now.days.items self.old self.new }
     {
         let event = self.event;
-        if event.exdates.is_empty() || !self.is_behind() {
+        if event.exdates().is_empty() || !self.is_behind() {
             return;
         }
         let to = self.removed_to(exclusions);

@@ -9,5 +9,5 @@ pub fn is_single(event: &Event) -> bool
     ensures { result ≡ is_single event.now }
 {
     event.recurrence.is_some()
-        || (event.rule.is_none() && event.rdates.is_empty() && event.exdates.is_empty())
+        || (event.rule.is_none() && event.rdates().is_empty() && event.exdates().is_empty())
 }

@@ -134,7 +134,7 @@ fn seconds_late(event: &Event, bounds: Bounds) -> i64
     ensures least { pos 0 ≤ℤ result }
     ensures most { result ≤ℤ whole_days 4 }
 {
-    if event.rdates.is_empty() {
+    if event.rdates().is_empty() {
         rule_late(event, bounds)
     } else {
         FOUR_DAYS

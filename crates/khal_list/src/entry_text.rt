@@ -136,11 +136,11 @@ pub(crate) fn add_field(
         EntryField::StartDate => add_date(text, date_at(zone, occurrence.start)),
         EntryField::EndDate => add_date(text, end_day(zone, occurrence)),
         EntryField::Uid => add_shown(alloc, text, event.uid.as_slice()),
-        EntryField::Cancelled if event.cancelled => text.extend_from_slice(b"CANCELLED "),
+        EntryField::Cancelled if event.is_cancelled() => text.extend_from_slice(b"CANCELLED "),
         EntryField::Cancelled => Ok(()),
         EntryField::StartUnix => add_moment(alloc, text, occurrence.start),
         EntryField::EndUnix => add_moment(alloc, text, occurrence.finish),
         EntryField::Token => add_token(alloc, text, request, day, occurrence),
-        EntryField::Text(name) => add_shown(alloc, text, event.text(name).as_slice()),
+        EntryField::Text(name) => add_shown(alloc, text, event.text(name)),
     }
 }

@@ -17,10 +17,10 @@ last_of-requires c =
     let n = c.loop-rdate.rdate-index in
     let x = c.rdate-item.result in
     let sound : IsEvent c.args.event.now = search rules in
-    let items : c.deref-rdate-items.result.now ≡ event.rdates = c.deref-rdate-items.ensures.value ∙ ap (λ (v : Event). v.rdates) c.event.view_is in
+    let items : c.rdates-rdate-items.result.now ≡ event.rdates = c.rdates-rdate-items.ensures.value in
     let there : slice_get event.rdates n ≡ Some x =
     subst (λ (xs : List Rdate). slice_get xs n ≡ Some x) items
-    (slice_get_read c.deref-rdate-items.result.now (length c.deref-rdate-items.result.now) n x refl c.loop-rdate-test.true c.rdate-item.is) in
+    (slice_get_read c.rdates-rdate-items.result.now (length c.rdates-rdate-items.result.now) n x refl c.loop-rdate-test.true c.rdate-item.is) in
     let given : c.given_by.result ≡ given_by event.start x = c.given_by.ensures ∙ ap (λ (v : Event). given_by v.start x) c.event.view_is in
     subst IsRdate (sym given) (given-value event.start event.start.stamp x sound.start (all-at IsRdate event.rdates n x sound.rdates there))
 
@@ -29,10 +29,10 @@ loop-rdate-preserved c =
     let event = c.args.event.now in
     let n = c.loop-rdate.rdate-index in
     let x = c.rdate-item.result in
-    let items : c.deref-rdate-items.result.now ≡ event.rdates = c.deref-rdate-items.ensures.value ∙ ap (λ (v : Event). v.rdates) c.event.view_is in
+    let items : c.rdates-rdate-items.result.now ≡ event.rdates = c.rdates-rdate-items.ensures.value in
     let there : slice_get event.rdates n ≡ Some x =
     subst (λ (xs : List Rdate). slice_get xs n ≡ Some x) items
-    (slice_get_read c.deref-rdate-items.result.now (length c.deref-rdate-items.result.now) n x refl c.loop-rdate-test.true c.rdate-item.is) in
+    (slice_get_read c.rdates-rdate-items.result.now (length c.rdates-rdate-items.result.now) n x refl c.loop-rdate-test.true c.rdate-item.is) in
     let given : c.given_by.result ≡ given_by event.start x = c.given_by.ensures ∙ ap (λ (v : Event). given_by v.start x) c.event.view_is in
     let back : to_z w64 (of_z w64 c.last_of.result) ≡ c.last_of.result = moment-back c.last_of.result c.last_of.type_inv in
     let last = subst (λ t. IsEndedBy t (given_by event.start x)) (sym back) (subst (IsEndedBy c.last_of.result) given c.last_of.ensures) in

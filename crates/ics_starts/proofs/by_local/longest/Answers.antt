@@ -25,10 +25,10 @@ loop-rdate-preserved c =
     let old = to_z w64 c.loop-rdate.most-bits in
     let new = to_z w64 c.match-given_by.most-bits in
     let sound : IsEvent c.args.event.now = search rules in
-    let items : c.deref-rdate-items.result.now ≡ event.rdates = c.deref-rdate-items.ensures.value ∙ ap (λ (v : Event). v.rdates) c.event.view_is in
+    let items : c.rdates-rdate-items.result.now ≡ event.rdates = c.rdates-rdate-items.ensures.value in
     let there : slice_get event.rdates n ≡ Some x =
     subst (λ (xs : List Rdate). slice_get xs n ≡ Some x) items
-    (slice_get_read c.deref-rdate-items.result.now (length c.deref-rdate-items.result.now) n x refl c.loop-rdate-test.true c.rdate-item.is) in
+    (slice_get_read c.rdates-rdate-items.result.now (length c.rdates-rdate-items.result.now) n x refl c.loop-rdate-test.true c.rdate-item.is) in
     let given : c.given_by.result ≡ given_by event.start x = c.given_by.ensures ∙ ap (λ (v : Event). given_by v.start x) c.event.view_is in
     let value = given-value event.start event.start.stamp x sound.start (all-at IsRdate event.rdates n x sound.rdates there) in
     let was = c.loop-rdate.invariant in
@@ -70,7 +70,7 @@ pub returns : goal.returns
 returns c =
     let event = c.args.event.now in
     let n = c.loop-rdate.rdate-index in
-    let items : c.deref-rdate-items.result.now ≡ event.rdates = c.deref-rdate-items.ensures.value ∙ ap (λ (v : Event). v.rdates) c.event.view_is in
+    let items : c.rdates-rdate-items.result.now ≡ event.rdates = c.rdates-rdate-items.ensures.value in
     let over : length event.rdates ≤ n = subst (λ (xs : List Rdate). length xs ≤ n) items c.loop-rdate-test.false in
     record {
       least = c.loop-rdate.invariant.least;

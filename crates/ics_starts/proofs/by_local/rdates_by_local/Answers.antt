@@ -23,10 +23,10 @@ loop-place-preserved c =
     let x = c.rdate-item.result in
     let start : Rdate → ℤ = λ rdate. local_in (time_of (given_by event.start rdate)) in
     let sound : IsEvent c.args.event.now = search rules in
-    let items : c.deref-rdate-items.result.now ≡ event.rdates = c.deref-rdate-items.ensures.value ∙ ap (λ (v : Event). v.rdates) c.event.view_is in
+    let items : c.rdates-rdate-items.result.now ≡ event.rdates = c.rdates-rdate-items.ensures.value in
     let there : slice_get event.rdates k ≡ Some x =
     subst (λ (xs : List Rdate). slice_get xs k ≡ Some x) items
-    (slice_get_read c.deref-rdate-items.result.now (length c.deref-rdate-items.result.now) k x refl c.loop-place-test.true c.rdate-item.is) in
+    (slice_get_read c.rdates-rdate-items.result.now (length c.rdates-rdate-items.result.now) k x refl c.loop-place-test.true c.rdate-item.is) in
     let given : c.given_by-given.result ≡ given_by event.start x = c.given_by-given.ensures ∙ ap (λ (v : Event). given_by v.start x) c.event.view_is in
     let time : c.time_of.result ≡ time_of (given_by event.start x) = c.time_of.ensures ∙ ap time_of given in
     let local : c.seconds-local.result ≡ stamp_seconds (time_of (given_by c.args.event.now.start c.rdate-item.result)).stamp =
@@ -44,7 +44,7 @@ returns c =
     let k = c.loop-place.place in
     let start : Rdate → ℤ = λ rdate. local_in (time_of (given_by event.start rdate)) in
     let sorted = c.sort_unstable_by_key.new.self.items in
-    let items : c.deref-rdate-items.result.now ≡ event.rdates = c.deref-rdate-items.ensures.value ∙ ap (λ (v : Event). v.rdates) c.event.view_is in
+    let items : c.rdates-rdate-items.result.now ≡ event.rdates = c.rdates-rdate-items.ensures.value in
     let over : length event.rdates ≤ k = subst (λ (xs : List Rdate). length xs ≤ k) items c.loop-place-test.false in
     placed-sorted c.loop-place.places.items sorted (subst (λ n. n ≤ k) (sym (length-map event.rdates start)) over)
     c.sort_unstable_by_key.ensures.permutation (sorted-by sorted c.sort_unstable_by_key.ensures.sorted (λ a r f' k. search rules)) c.loop-place.invariant

@@ -1,5 +1,4 @@
 use Rattle.std.proofs.Common.{◌≡◌, ◌<◌, List, length, get_or, sym, ◌∙◌, ap, subst}
-use Rattle.ics_event.specs.declared.event.Event.{Event}
 use Rattle.ics_event.specs.Event.{Time}
 use Rattle.ics_starts.specs.Exclusions.{excludes}
 use Rattle.ics_starts.specs.FileZones.{clocks_in}
@@ -13,7 +12,7 @@ returns-then-excludes c =
     let clocks = clocks_in c.args.zones in
     let k = c.loop-exdate.exdate-index in
     let x = c.exdate-item.result in
-    let items : c.deref-exdate-items.result.now ≡ event.exdates = c.deref-exdate-items.ensures.value ∙ ap (λ (v : Event). v.exdates) c.event.view_is in
+    let items : c.exdates-exdate-items.result.now ≡ event.exdates = c.exdates-exdate-items.ensures.value in
     let there : k < length event.exdates = subst (λ (xs : List Time). k < length xs) items c.loop-exdate-test.true in
     let item : x ≡ get_or event.exdates k x = c.exdate-item.is ∙ ap (λ (xs : List Time). get_or xs k x) items in
     let fits = moment-back c.args.moment c.ranges.moment.sfits in

@@ -19,11 +19,11 @@ lesser_again-least-requires-in-loop-k c =
     let event = c.args.event.now in
     let near = c.next_rdates-near.result in
     let k = c.loop-k.k in
-    let r = c.index.result.now in
+    let r = c.index-rdates-at.result in
     let below : k < count_in near = subst (λ n. k < n) c.count-k-end.ensures c.loop-k-test.true in
     let there : slice_get event.rdates (place_in near k) ≡ Some r =
-    value-at (ap (λ (v : Event). v.rdates) c.event.view_is) c.at.ensures
-    (within-rdates event (place_in near k) (c.next_rdates-near.ensures.within k below)) c.index.ensures in
+    value-at c.rdates-rdates.ensures.value c.at.ensures
+    (within-rdates event (place_in near k) (c.next_rdates-near.ensures.within k below)) c.index-rdates-at.is in
     let given : c.given_by-given.result ≡ given_by event.start r = c.given_by-given.ensures ∙ ap (λ (v : Event). given_by v.start r) c.event.view_is in
     subst (IsTimeOf c.args.zones.zones.now) (sym (c.time_of.ensures ∙ ap time_of given))
     (given-time c.args.zones event (Listed (place_in near k)) (given_by event.start r) c.requires.event (r, there, refl))
@@ -34,12 +34,12 @@ loop-k-preserved c =
     let clocks = clocks_in c.args.zones in
     let near = c.next_rdates-near.result in
     let k = c.loop-k.k in
-    let r = c.index.result.now in
+    let r = c.index-rdates-at.result in
     let least : SFits w64 c.lesser_again-least-in-loop-k.result = search rules in
     let below : k < count_in near = subst (λ n. k < n) c.count-k-end.ensures c.loop-k-test.true in
     let there : slice_get event.rdates (place_in near k) ≡ Some r =
-    value-at (ap (λ (v : Event). v.rdates) c.event.view_is) c.at.ensures
-    (within-rdates event (place_in near k) (c.next_rdates-near.ensures.within k below)) c.index.ensures in
+    value-at c.rdates-rdates.ensures.value c.at.ensures
+    (within-rdates event (place_in near k) (c.next_rdates-near.ensures.within k below)) c.index-rdates-at.is in
     let given : c.given_by-given.result ≡ given_by event.start r = c.given_by-given.ensures ∙ ap (λ (v : Event). given_by v.start r) c.event.view_is in
     let same : c.time_of.result ≡ time_of (given_by event.start r) = c.time_of.ensures ∙ ap time_of given in
     let first = c.lesser_again-least-in-loop-k.ensures.first in

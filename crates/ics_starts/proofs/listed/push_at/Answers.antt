@@ -4,7 +4,7 @@ use Rattle.std.proofs.lemmas.Int.{ints}
 use Rattle.std.proofs.lemmas.Grind.{common_steps}
 use Rattle.std.proofs.lemmas.List.{append-nil}
 use Rattle.ics_event.specs.declared.event.Event.{Event}
-use Rattle.ics_event.specs.Event.{Time}
+use Rattle.ics_event.specs.Event.{Rdate, Time}
 use Rattle.ics_listing.proofs.Cases.{moment-back, some-same}
 use Rattle.ics_listing.specs.declared.start.StartSource.TheVariants.{Listed}
 use Rattle.ics_listing.specs.declared.start.Start.{Start}
@@ -33,10 +33,10 @@ counted-requires-clause-time c =
     let event = c.args.event.now in
     let near = c.args.near in
     let k = c.loop-k.k in
-    let r = c.index.result.now in
+    let r = c.index-rdates-place.result in
     let below : k < count_in near = subst (λ n. k < n) c.count-k-end.ensures c.loop-k-test.true in
     let there : slice_get event.rdates (place_in near k) ≡ Some r =
-    value-at (ap (λ (v : Event). v.rdates) c.event.view_is) c.at-place.ensures (c.requires.counting.within k below) c.index.ensures in
+    value-at c.rdates-rdates.ensures.value c.at-place.ensures (c.requires.counting.within k below) c.index-rdates-place.is in
     let given : c.given_by-given.result ≡ given_by event.start r = c.given_by-given.ensures ∙ ap (λ (v : Event). given_by v.start r) c.event.view_is in
     subst (IsTimeOf c.args.zones.zones.now) (sym (c.time_of.ensures ∙ ap time_of given))
     (given-time c.args.zones event (Listed (place_in near k)) (given_by event.start r) c.requires.event (r, there, refl))
@@ -52,11 +52,11 @@ loop-k-preserved-in_default c =
     let near = c.args.near in
     let k = c.loop-k.k in
     let place = c.at-place.result in
-    let r = c.index.result.now in
+    let r = c.index-rdates-place.result in
     let below : k < count_in near = subst (λ n. k < n) c.count-k-end.ensures c.loop-k-test.true in
     let here : place ≡ place_in near k = c.at-place.ensures in
     let there : place < length event.rdates = let l = c.requires.counting.within k below in omega (arith, l, here) in
-    let item : r ≡ get_or event.rdates place r = c.index.ensures ∙ ap (λ (v : Event). get_or v.rdates place r) c.event.view_is in
+    let item : r ≡ get_or event.rdates place r = c.index-rdates-place.is ∙ ap (λ (xs : List Rdate). get_or xs place r) c.rdates-rdates.ensures.value in
     let given : c.given_by-given.result ≡ given_by event.start r = c.given_by-given.ensures ∙ ap (λ (v : Event). given_by v.start r) c.event.view_is in
     let same : c.time_of.result ≡ time_of (given_by event.start r) = c.time_of.ensures ∙ ap time_of given in
     let begin = sym (moment-back c.args.since c.ranges.since.sfits) in
@@ -89,11 +89,11 @@ loop-k-preserved-then-moment-since c =
     let near = c.args.near in
     let k = c.loop-k.k in
     let place = c.at-place.result in
-    let r = c.index.result.now in
+    let r = c.index-rdates-place.result in
     let below : k < count_in near = subst (λ n. k < n) c.count-k-end.ensures c.loop-k-test.true in
     let here : place ≡ place_in near k = c.at-place.ensures in
     let there : place < length event.rdates = let l = c.requires.counting.within k below in omega (arith, l, here) in
-    let item : r ≡ get_or event.rdates place r = c.index.ensures ∙ ap (λ (v : Event). get_or v.rdates place r) c.event.view_is in
+    let item : r ≡ get_or event.rdates place r = c.index-rdates-place.is ∙ ap (λ (xs : List Rdate). get_or xs place r) c.rdates-rdates.ensures.value in
     let given : c.given_by-given.result ≡ given_by event.start r = c.given_by-given.ensures ∙ ap (λ (v : Event). given_by v.start r) c.event.view_is in
     let same : c.time_of.result ≡ time_of (given_by event.start r) = c.time_of.ensures ∙ ap time_of given in
     let begin = sym (moment-back c.args.since c.ranges.since.sfits) in
@@ -126,11 +126,11 @@ loop-k-preserved c =
     let near = c.args.near in
     let k = c.loop-k.k in
     let place = c.at-place.result in
-    let r = c.index.result.now in
+    let r = c.index-rdates-place.result in
     let below : k < count_in near = subst (λ n. k < n) c.count-k-end.ensures c.loop-k-test.true in
     let here : place ≡ place_in near k = c.at-place.ensures in
     let there : place < length event.rdates = let l = c.requires.counting.within k below in omega (arith, l, here) in
-    let item : r ≡ get_or event.rdates place r = c.index.ensures ∙ ap (λ (v : Event). get_or v.rdates place r) c.event.view_is in
+    let item : r ≡ get_or event.rdates place r = c.index-rdates-place.is ∙ ap (λ (xs : List Rdate). get_or xs place r) c.rdates-rdates.ensures.value in
     let given : c.given_by-given.result ≡ given_by event.start r = c.given_by-given.ensures ∙ ap (λ (v : Event). given_by v.start r) c.event.view_is in
     let same : c.time_of.result ≡ time_of (given_by event.start r) = c.time_of.ensures ∙ ap time_of given in
     let begin = sym (moment-back c.args.since c.ranges.since.sfits) in

@@ -1,8 +1,9 @@
-use Rattle.std.proofs.Common.{◌≡◌, ◌++◌, ℕ, length, sym, ◌∙◌, ap, arith, subst, to_z, of_z, w64}
+use Rattle.std.proofs.Common.{◌≡◌, ◌++◌, List, length, sym, ◌∙◌, ap, arith, subst, to_z, of_z, w64}
 use Rattle.std.specs.Result.{IfOk}
 use Rattle.std.proofs.lemmas.Int.{ints}
 use Rattle.std.proofs.lemmas.List.{length-map}
 use Rattle.ics_event.specs.declared.event.Event.{Event}
+use Rattle.ics_event.specs.Event.{Rdate}
 use Rattle.ics_listing.proofs.Cases.{moment-back}
 use Rattle.ics_listing.specs.StartTimes.{time_of}
 use Rattle.ics_starts.specs.FileZones.{clocks_in}
@@ -13,16 +14,16 @@ use Rattle.ics_starts.proofs.NearLemmas.{both-back, counting-near}
 use Rattle.ics_starts.proofs.listed.push_listed.Goals as goal
 
 -- there are as many locals as RDATEs
-locals-counted : {inside event : Event} {n : ℕ} → inside ≡ event → n ≡ length inside.rdates → length (rdate_locals event) ≡ n
-locals-counted {event = event} is e =
-    length-map event.rdates (λ r. local_in (time_of (given_by event.start r))) ∙ sym (e ∙ ap (λ (v : Event). length v.rdates) is)
+locals-counted : (event : Event) {rdates : List Rdate} → rdates ≡ event.rdates → length (rdate_locals event) ≡ length rdates
+locals-counted event is =
+    length-map event.rdates (λ r. local_in (time_of (given_by event.start r))) ∙ sym (ap (λ (xs : List Rdate). length xs) is)
 
 pub push_at-requires-clause-up : goal.push_at-requires-clause-up
 push_at-requires-clause-up c =
     let event = c.args.event.now in
     let from = to_z w64 (of_z w64 c.args.from) in
     let to = to_z w64 (of_z w64 c.args.window.now.to) in
-    let known = c.or_all-near.ensures (rdate_locals event) from c.args.running.now to (locals-counted c.event.view_is (grind (arith, c.len.ensures)))
+    let known = c.or_all-near.ensures (rdate_locals event) from c.args.running.now to (locals-counted event c.rdates.ensures.value)
     c.in_ok-given.ensures in
     known.up
 
@@ -37,7 +38,7 @@ push_at-requires-clause-counting c =
     let begin = sym (moment-back c.args.since c.ranges.since.sfits) in
     let back = sym (moment-back c.args.from c.ranges.from.sfits) in
     let are = both-back (λ s f. AreRunning (clocks_in c.args.zones) w event s f running) begin back c.requires.running in
-    let known = c.or_all-near.ensures (rdate_locals event) from running to (locals-counted c.event.view_is (grind (arith, c.len.ensures)))
+    let known = c.or_all-near.ensures (rdate_locals event) from running to (locals-counted event c.rdates.ensures.value)
     c.in_ok-given.ensures in
     counting-near c.args.zones w event are (omega (arith, ints, c.requires.soon, c.ranges.from))
     (subst (λ t. AreKnown (rdate_locals event) from running t c.or_all-near.result) end known)

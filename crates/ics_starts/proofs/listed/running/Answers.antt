@@ -27,10 +27,10 @@ push_running-requires-clause-value c =
     let event = c.args.event.now in
     let near = c.near_spans-near.result in
     let k = c.loop-k.k in
-    let r = c.index.result.now in
+    let r = c.index-rdates-place.result in
     let below : k < count_in near = subst (λ n. k < n) c.count-k-end.ensures c.loop-k-test.true in
     let there : slice_get event.rdates (place_in near k) ≡ Some r =
-    value-at (ap (λ (v : Event). v.rdates) c.event.view_is) c.at-place.ensures (c.near_spans-near.ensures.within k below) c.index.ensures in
+    value-at c.rdates-rdates.ensures.value c.at-place.ensures (c.near_spans-near.ensures.within k below) c.index-rdates-place.is in
     let given : c.given_by.result ≡ given_by event.start r = c.given_by.ensures ∙ ap (λ (v : Event). given_by v.start r) c.event.view_is in
     subst IsRdate (sym given)
     (given-value event.start event.start.stamp r c.requires.event.is_event.start
@@ -41,10 +41,10 @@ push_running-requires-clause-time c =
     let event = c.args.event.now in
     let near = c.near_spans-near.result in
     let k = c.loop-k.k in
-    let r = c.index.result.now in
+    let r = c.index-rdates-place.result in
     let below : k < count_in near = subst (λ n. k < n) c.count-k-end.ensures c.loop-k-test.true in
     let there : slice_get event.rdates (place_in near k) ≡ Some r =
-    value-at (ap (λ (v : Event). v.rdates) c.event.view_is) c.at-place.ensures (c.near_spans-near.ensures.within k below) c.index.ensures in
+    value-at c.rdates-rdates.ensures.value c.at-place.ensures (c.near_spans-near.ensures.within k below) c.index-rdates-place.is in
     let given : c.given_by.result ≡ given_by event.start r = c.given_by.ensures ∙ ap (λ (v : Event). given_by v.start r) c.event.view_is in
     subst (λ v. IsTimeOf c.args.zones.zones.now (time_of v)) (sym given)
     (given-time c.args.zones event (Listed (place_in near k)) (given_by event.start r) c.requires.event (r, there, refl))
@@ -82,10 +82,10 @@ loop-k-preserved c =
     let w = c.args.window.now in
     let near = c.near_spans-near.result in
     let k = c.loop-k.k in
-    let r = c.index.result.now in
+    let r = c.index-rdates-place.result in
     let below : k < count_in near = subst (λ n. k < n) c.count-k-end.ensures c.loop-k-test.true in
     let there : slice_get event.rdates (place_in near k) ≡ Some r =
-    value-at (ap (λ (v : Event). v.rdates) c.event.view_is) c.at-place.ensures (c.near_spans-near.ensures.within k below) c.index.ensures in
+    value-at c.rdates-rdates.ensures.value c.at-place.ensures (c.near_spans-near.ensures.within k below) c.index-rdates-place.is in
     let given : c.given_by.result ≡ given_by event.start r = c.given_by.ensures ∙ ap (λ (v : Event). given_by v.start r) c.event.view_is in
     let before = c.loop-k.running.items in
     let more : (t : ℤ) → c.args.since ≤ℤ t → t <ℤ c.args.from → is_among c.push_running.new.running.items t

@@ -1,10 +1,10 @@
-use Rattle.std.proofs.Common.{◌≡◌, ◌<◌, ◌||◌, ◌<ℤ◌, ℕ, ℤ, length, get_or, slice_get, true, sym, ◌∙◌, ap, subst, ⊎_elim, arith, w64, to_z, of_z}
+use Rattle.std.proofs.Common.{◌≡◌, ◌<◌, ◌||◌, ◌<ℤ◌, ℤ, List, length, get_or, slice_get, true, sym, ◌∙◌, ap, subst, ⊎_elim, rules, arith, w64, to_z, of_z}
 use Rattle.std.proofs.lemmas.Bool.{or_left, or_right}
 use Rattle.std.proofs.lemmas.Int.{ints}
 use Rattle.std.proofs.lemmas.List.{length-map}
 use Rattle.std.proofs.lemmas.Option.{get_or_from_slice_get}
 use Rattle.ics_event.specs.declared.event.Event.{Event}
-use Rattle.ics_event.specs.Event.{IsTime, TimeBelow}
+use Rattle.ics_event.specs.Event.{IsTime, Time, TimeBelow}
 use Rattle.ics_listing.proofs.Cases.{below-or-last}
 use Rattle.ics_period.proofs.Tests.{iff}
 use Rattle.ics_starts.specs.Clocks.{clock_of}
@@ -15,28 +15,39 @@ use Rattle.ics_starts.proofs.ExclusionLemmas.{any-at, exdate-there, or-either, s
 use Rattle.ics_starts.proofs.exclusion.Exclusions.new.Goals as goal
 
 -- there are as many locals as EXDATEs
-locals-counted : {inside event : Event} {n : ℕ} → inside ≡ event → n ≡ length inside.exdates → length (exdate_locals event) ≡ n
-locals-counted {event = event} is e = length-map event.exdates local_in ∙ sym (e ∙ ap (λ (v : Event). length v.exdates) is)
+locals-counted : (event : Event) {exdates : List Time} → exdates ≡ event.exdates → length (exdate_locals event) ≡ length exdates
+locals-counted event is = length-map event.exdates local_in ∙ sym (ap (λ (xs : List Time). length xs) is)
 
-pub index-requires : goal.index-requires
-index-requires c =
+pub offset_bounds-exdates-at : goal.offset_bounds-exdates-at
+offset_bounds-exdates-at c =
     let event = c.args.event.now in
     let near = c.or_all-near.ensures (exdate_locals event) (to_z w64 (of_z w64 c.args.from)) c.deref.result.now
-    (to_z w64 (of_z w64 c.args.window.now.to)) (locals-counted c.event.view_is (grind (arith, c.len.ensures))) c.in_ok-given.ensures in
+    (to_z w64 (of_z w64 c.args.window.now.to)) (locals-counted event c.exdates-exdates.ensures.value) c.in_ok-given.ensures in
     let there : c.at.result < length event.exdates =
     subst (λ n. n < length event.exdates) (sym c.at.ensures)
     (exdate-there event c.or_all-near.result near (subst (λ n. c.loop-k.k < n) c.count-k-end.ensures c.loop-k-test.true)) in
-    let items : length c.event.inside.exdates.items ≡ length event.exdates = ap (λ (v : Event). length v.exdates) c.event.view_is in
-    grind (arith, there, items)
+    let within : c.at.result < length c.exdates-exdates.result.now =
+    subst (λ (xs : List Time). c.at.result < length xs) (sym c.exdates-exdates.ensures.value) there in
+    search rules
+
+pub bounds-exdates-at : goal.bounds-exdates-at
+bounds-exdates-at c =
+    let event = c.args.event.now in
+    let near = c.or_all-near.ensures (exdate_locals event) (to_z w64 (of_z w64 c.args.from)) c.deref.result.now
+    (to_z w64 (of_z w64 c.args.window.now.to)) (locals-counted event c.exdates-exdates.ensures.value) c.in_ok-given.ensures in
+    let there : c.at.result < length event.exdates =
+    subst (λ n. n < length event.exdates) (sym c.at.ensures)
+    (exdate-there event c.or_all-near.result near (subst (λ n. c.loop-k.k < n) c.count-k-end.ensures c.loop-k-test.true)) in
+    subst (λ (xs : List Time). c.at.result < length xs) (sym c.exdates-exdates.ensures.value) there
 
 pub push_exdate-requires-clause-time : goal.push_exdate-requires-clause-time
 push_exdate-requires-clause-time c =
     let event = c.args.event.now in
     let near = c.or_all-near.ensures (exdate_locals event) (to_z w64 (of_z w64 c.args.from)) c.deref.result.now
-    (to_z w64 (of_z w64 c.args.window.now.to)) (locals-counted c.event.view_is (grind (arith, c.len.ensures))) c.in_ok-given.ensures in
+    (to_z w64 (of_z w64 c.args.window.now.to)) (locals-counted event c.exdates-exdates.ensures.value) c.in_ok-given.ensures in
     let place = c.at.result in
-    let x = c.index.result.now in
-    let item : x ≡ get_or event.exdates place x = c.index.ensures ∙ ap (λ (v : Event). get_or v.exdates place x) c.event.view_is in
+    let x = c.index-exdates-at.result in
+    let item : x ≡ get_or event.exdates place x = c.index-exdates-at.is ∙ ap (λ (xs : List Time). get_or xs place x) c.exdates-exdates.ensures.value in
     let there : place < length event.exdates =
     subst (λ n. n < length event.exdates) (sym c.at.ensures)
     (exdate-there event c.or_all-near.result near (subst (λ n. c.loop-k.k < n) c.count-k-end.ensures c.loop-k-test.true)) in
@@ -49,13 +60,13 @@ pub loop-k-preserved : goal.loop-k-preserved
 loop-k-preserved c =
     let event = c.args.event.now in
     let near = c.or_all-near.ensures (exdate_locals event) (to_z w64 (of_z w64 c.args.from)) c.deref.result.now
-    (to_z w64 (of_z w64 c.args.window.now.to)) (locals-counted c.event.view_is (grind (arith, c.len.ensures))) c.in_ok-given.ensures in
+    (to_z w64 (of_z w64 c.args.window.now.to)) (locals-counted event c.exdates-exdates.ensures.value) c.in_ok-given.ensures in
     let clocks = clocks_in c.args.zones in
     let places = c.or_all-near.result in
     let place = c.at.result in
-    let x = c.index.result.now in
+    let x = c.index-exdates-at.result in
     let before = λ (t : ℤ). takes_out (clock_of clocks event.start) c.loop-k.instants.items c.loop-k.days.items t in
-    let item : x ≡ get_or event.exdates place x = c.index.ensures ∙ ap (λ (v : Event). get_or v.exdates place x) c.event.view_is in
+    let item : x ≡ get_or event.exdates place x = c.index-exdates-at.is ∙ ap (λ (xs : List Time). get_or xs place x) c.exdates-exdates.ensures.value in
     let there : place < length event.exdates =
     subst (λ n. n < length event.exdates) (sym c.at.ensures)
     (exdate-there event places near (subst (λ n. c.loop-k.k < n) c.count-k-end.ensures c.loop-k-test.true)) in
@@ -89,7 +100,7 @@ returns c =
     let before = λ (t : ℤ). takes_out (clock_of clocks event.start) c.loop-k.instants.items c.loop-k.days.items t in
     let sorted = λ (t : ℤ). sorted-takes_out (clock_of clocks event.start) t c.sort_unstable.ensures.permutation c.sort_unstable-2.ensures.permutation in
     let near = c.or_all-near.ensures (exdate_locals event) (to_z w64 (of_z w64 c.args.from)) c.deref.result.now
-    (to_z w64 (of_z w64 c.args.window.now.to)) (locals-counted c.event.view_is (grind (arith, c.len.ensures))) c.in_ok-given.ensures in
+    (to_z w64 (of_z w64 c.args.window.now.to)) (locals-counted event c.exdates-exdates.ensures.value) c.in_ok-given.ensures in
     let each : (t : ℤ) → is_known (to_z w64 (of_z w64 c.args.from)) c.args.running.items t ≡ true → t <ℤ c.args.window.now.to
     → is_excluded clocks event t ≡ true → before t ≡ true =
     λ t known early out.
