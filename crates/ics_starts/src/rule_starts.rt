@@ -46,7 +46,6 @@ use ics_rule::{Cursor, Rule};
 use ics_values::{Local, Moment, Stamp, is_zoned};
 use ics_zone::{Bounds, Spans, Stretch};
 use std::alloc::{AllocError, Global};
-use std::mem;
 
 /// Kept locals that are nearer to one another than these seconds are worth a stretch.
 const CLOSE: u16 = 3_600;
@@ -60,8 +59,8 @@ const MANY: i64 = 512;
 /// For fewer than these they do also where the clock itself tells no stretch.
 const SOME: i64 = 64;
 
-/// Spans that saved fewer questions took longer too.
-const TOLD: u16 = 32;
+/// So many locals of a zone that may turn often are read without new spans where the last ones saved fewer questions, which take as long.
+const TOLD: u16 = 64;
 
 /// How many seconds pass before spans are made again then.
 const LATER: i64 = 128 * 86_400;
@@ -111,7 +110,7 @@ pub(crate) struct RuleStarts<'a> {
     stretch: Stretch,
     /// Spans of that clock near the locals that are read, if it told no stretch that is far.
     spans: Option<Spans>,
-    /// How many questions these have saved or, where there are none, those of the search before.
+    /// How many questions there were since spans were made last, in all searches of the rule.
     told: u16,
     /// Locals that are nearer to one another than these seconds are close.
     close: u16,
@@ -297,12 +296,11 @@ fn asks_from(known: Stretch, before: Local, from: Local, next: Moment) -> Moment
 }
 
 /// Whether new spans, which were made for a local, given by its seconds, save few questions. They save many if they were made for many later ones, so many
-/// seconds apart, or for some and for days where the clock itself tells no stretch and those before them told some.
+/// seconds apart, or for some and for days where the clock itself tells no stretch.
 fn are_few(
     zones: FileZones<'_>,
     time: Time,
     spans: &Option<Spans>,
-    told: u16,
     local: Moment,
     step: Moment,
 ) -> bool
@@ -313,11 +311,11 @@ fn are_few(
         return false;
     }
     let near = local.saturating_add(step.saturating_mul(SOME).max(DAYS));
-    told < TOLD || !are_made_for(spans, near) || is_in(stretch(zones, time, local), local)
+    !are_made_for(spans, near) || is_in(stretch(zones, time, local), local)
 }
 
-/// A stretch for which the clock is asked, about a local, given by its seconds. Where new spans are made for few locals so many seconds apart, none are
-/// made for some time.
+/// A stretch for which the clock is asked, about a local, given by its seconds. The clock of a zone that may turn often is asked anew only after so many
+/// questions that spans pay. Where they are made for few locals so many seconds apart, none are made for some time.
 #[inline(never)]
 fn asked_at(
     zones: FileZones<'_>,
@@ -334,13 +332,16 @@ fn asked_at(
     ensures stretch { IsStretched (clock_of (clocks_in zones.entry) time) result }
 {
     let are_known = are_made_for(spans, local);
-    let stretch = stretch_by(zones, time, spans, local);
-    if are_known {
+    if !are_known && *told < TOLD && turns_often(zones, time) {
         *told = told.saturating_add(1);
-    } else if are_made_for(spans, local) {
-        let before = mem::replace(told, 0);
-        if are_few(zones, time, spans, before, local, step) {
-            *told = TOLD;
+        return no_stretch(local + 1);
+    }
+    let stretch = stretch_by(zones, time, spans, local);
+    if are_known || !are_made_for(spans, local) {
+        *told = told.saturating_add(1);
+    } else {
+        *told = 0;
+        if are_few(zones, time, spans, local, step) {
             return no_stretch(local + LATER);
         }
     }
