@@ -38,5 +38,5 @@ pub use resuming::{
     day_goes_on, day_pages, day_token_goes_on, goes_on, last_line_shows, line_goes_on, pages,
     text_goes_on, token_goes_on,
 };
-pub use running::run;
+pub use running::{AtEnd, run};
 pub use words::{Words, zone_of_file};

@@ -17,6 +17,7 @@ use ics_series::{DayToken, Folder, Token};
 use khal_ports::{RunFault, Sink, Source, ZoneSource, flush_all, put_all};
 use khal_reading::{Status, read_all};
 use std::alloc::Global;
+use std::mem;
 
 /// Writes the requested listing of a folder that is shown in the request's zone, each occurrence once,
 /// and returns the token from which it continues.
@@ -83,11 +84,31 @@ fn list_folder<O: Sink>(
     }
 }
 
+/// What becomes of the memory of the files that were read, once their listing is written.
+#[derive(Clone, Copy)]
+pub enum AtEnd {
+    /// It is given back piece by piece.
+    GivenBack,
+    /// It is left to the system, which takes it back at once when the program ends.
+    Left,
+}
+
+impl AtEnd {
+    /// Parts with a folder.
+    fn part_with(self, folder: Folder) {
+        match self {
+            AtEnd::GivenBack => drop(folder),
+            AtEnd::Left => mem::forget(folder),
+        }
+    }
+}
+
 /// Writes the requested listing of these files, and returns the token from which it continues.
 fn list<O: Sink>(
     alloc: Global,
     files: Vec<FileEvents>,
     request: &Request,
+    at_end: AtEnd,
     out: &mut O,
 ) -> Result<Option<String>, RunFault>
     ensures ok { IfOk result (λ token. Shown (Shows (map said_by files.items) request.now)
@@ -98,7 +119,9 @@ fn list<O: Sink>(
 {
     let mut folder = Folder::new(alloc, files, request.zone.clone()?)?;
     folder.prepare(&request.window, request.every_day.is_some());
-    list_folder(alloc, &folder, request, out)
+    let token = list_folder(alloc, &folder, request, out);
+    at_end.part_with(folder);
+    token
 }
 
 /// The same, and flushes `out` at its end.
@@ -106,6 +129,7 @@ fn list_whole<O: Sink>(
     alloc: Global,
     files: Vec<FileEvents>,
     request: &Request,
+    at_end: AtEnd,
     out: &mut O,
 ) -> Result<Option<String>, RunFault>
     ensures ok { IfOk result (λ token. Shown (Shows (map said_by files.items) request.now)
@@ -116,7 +140,7 @@ fn list_whole<O: Sink>(
     ensures cause { IsErrOf result RunFault.WriteFault
         → LeftByFault O.puts out.new ⊎ LeftByFlush O.flushes (Err Device) out.new }
 {
-    let token = list(alloc, files, request, out)?;
+    let token = list(alloc, files, request, at_end, out)?;
     flush_all(out)?;
     Ok(token)
 }
@@ -130,12 +154,14 @@ fn list_whole<O: Sink>(
 /// of these those after the request's key, up to its limit. Behind it `out` is flushed. If the limit cuts
 /// them, then the last line on `err` says where the listing continues.
 ///
-/// WriteFault comes only if an output failed, or was given bytes and took none.
+/// WriteFault comes only if an output failed, or was given bytes and took none. `at_end` says what becomes of
+/// the memory of what was read; it changes no answer.
 pub fn run<S: Source, Z: ZoneSource, O: Sink, E: Sink>(
     alloc: Global,
     source: &mut S,
     zones: &mut Z,
     request: &Request,
+    at_end: AtEnd,
     out: &mut O,
     err: &mut E,
 ) -> Result<Status, RunFault>
@@ -163,7 +189,7 @@ pub fn run<S: Source, Z: ZoneSource, O: Sink, E: Sink>(
     )?;
     put_all(err, &reading.errors)?;
     let status = reading.status();
-    let token = list_whole(alloc, reading.files, request, out)?;
+    let token = list_whole(alloc, reading.files, request, at_end, out)?;
     put_more(alloc, err, &token)?;
     Ok(status)
 }

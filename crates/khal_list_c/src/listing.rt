@@ -12,7 +12,7 @@ use crate::handing::hand_over;
 use crate::requests::request_of;
 use crate::words::{KhalWord, texts_of};
 use khal_list::{
-    MemorySink, MemorySource, MemoryZones, Request, RequestFault, RunFault, Status, run,
+    AtEnd, MemorySink, MemorySource, MemoryZones, Request, RequestFault, RunFault, Status, run,
 };
 use std::alloc::Global;
 
@@ -86,7 +86,15 @@ fn run_held(
 {
     let mut out = MemorySink::new(alloc);
     let mut err = MemorySink::new(alloc);
-    let status = run(alloc, &mut source, &mut zones, request, &mut out, &mut err)?;
+    let status = run(
+        alloc,
+        &mut source,
+        &mut zones,
+        request,
+        AtEnd::GivenBack,
+        &mut out,
+        &mut err,
+    )?;
     Ok(Written {
         out: out.bytes,
         err: err.bytes,

@@ -5,14 +5,14 @@ mod failure;
 
 use failure::Failure;
 use khal_list::{
-    Display, FolderSource, FolderZones, Request, RunFault, SourceFault, Status, Stream, Words,
-    read_zone_file, run, zone_of_file,
+    AtEnd, Display, FolderSource, FolderZones, Request, RunFault, SourceFault, Status, Stream,
+    Words, read_zone_file, run, zone_of_file,
 };
 use std::alloc::Global;
-use std::env;
 use std::io::{BufWriter, Stdout};
 use std::process::ExitCode;
 use std::rt::{Clock, Env, Files};
+use std::{env, mem};
 
 /// The program's name and version, as `--version` prints them.
 const VERSION: &str = "khal-list 0.1.0";
@@ -102,7 +102,15 @@ fn write(
     out: &mut Stream<BufWriter<Stdout, Global>>,
 ) -> Result<Status, RunFault> {
     let mut err = Stream::new(rt.stderr());
-    run(rt.alloc(), source, zones, request, out, &mut err)
+    run(
+        rt.alloc(),
+        source,
+        zones,
+        request,
+        AtEnd::Left,
+        out,
+        &mut err,
+    )
 }
 
 /// Lists the folder of a request to the standard streams. It has its own room on the stack, beside that of
@@ -114,6 +122,8 @@ fn list(rt: HostRuntime, request: &Request) -> Result<Status, Failure> {
     let mut zones = zones(rt, request)?;
     let mut out = Stream::new(output(rt)?);
     let ran = write(rt, &mut source, &mut zones, request, &mut out);
+    // the program ends here: the names of the files are left to the system, too
+    mem::forget(source);
     let finished = out.finish();
     let status = ran.map_err(Failure::of_run)?;
     finished.map_err(Failure::of_run)?;

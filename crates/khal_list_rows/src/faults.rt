@@ -3,7 +3,7 @@
 use crate::narrow::Narrow;
 use crate::runs::{Written, outcome, request_in};
 use crate::unread::Unread;
-use khal_list::{MemoryFile, MemorySource, MemoryZones, Request, RunFault, Status, run};
+use khal_list::{AtEnd, MemoryFile, MemorySource, MemoryZones, Request, RunFault, Status, run};
 use std::alloc::{AllocError, Global};
 use std::{io, mem};
 
@@ -216,7 +216,15 @@ impl Ended {
     ) -> Result<Ended, AllocError> {
         let mut out = Narrow::new(alloc, out_room, fails);
         let mut err = Narrow::new(alloc, err_room, fails);
-        let is_write_fault = match run(alloc, source, zones, request, &mut out, &mut err) {
+        let is_write_fault = match run(
+            alloc,
+            source,
+            zones,
+            request,
+            AtEnd::GivenBack,
+            &mut out,
+            &mut err,
+        ) {
             Ok(_) => false,
             Err(RunFault::WriteFault) => true,
             Err(RunFault::Memory) => return Err(AllocError),

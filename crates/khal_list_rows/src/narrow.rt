@@ -2,7 +2,7 @@
 
 use crate::row::shown_bytes;
 use crate::runs::{print_fault, request};
-use khal_list::{MemorySource, NoZones, Request, Sink, SinkFault, run};
+use khal_list::{AtEnd, MemorySource, NoZones, Request, Sink, SinkFault, run};
 use std::alloc::Global;
 use std::io;
 
@@ -93,6 +93,7 @@ fn print_narrow(
         source,
         &mut NoZones,
         request,
+        AtEnd::GivenBack,
         &mut out,
         &mut err,
     ) {

@@ -3,8 +3,8 @@
 use crate::row::shown_bytes;
 use crate::words::words_of;
 use khal_list::{
-    FolderSource, FolderZones, MemorySink, MemorySource, NoZones, Request, RequestFault, RunFault,
-    Source, Status, Stream, Words, ZoneSource, run, zone_of_file,
+    AtEnd, FolderSource, FolderZones, MemorySink, MemorySource, NoZones, Request, RequestFault,
+    RunFault, Source, Status, Stream, Words, ZoneSource, run, zone_of_file,
 };
 use std::alloc::{AllocError, Global};
 use std::io;
@@ -81,7 +81,15 @@ pub fn outcome<S: Source, Z: ZoneSource>(
 ) -> Result<Written, RunFault> {
     let mut out = Stream::new(Vec::new(alloc));
     let mut err = MemorySink::new(alloc);
-    let status = run(alloc, source, zones, request, &mut out, &mut err)?;
+    let status = run(
+        alloc,
+        source,
+        zones,
+        request,
+        AtEnd::GivenBack,
+        &mut out,
+        &mut err,
+    )?;
     let written = out.into_writer();
     let out = String::from_str(alloc, shown_bytes(written.as_slice()))?;
     let err = String::from_str(alloc, shown_bytes(err.bytes.as_slice()))?;
