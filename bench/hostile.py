@@ -246,6 +246,15 @@ def together(first, second, rule):
     return [part('STANDARD', '00010101T000000', '-0100', first, 'RRULE:' + rule), part('DAYLIGHT', '00010101T020000', '+0100', second, 'RRULE:' + rule)]
 
 
+def monthly_last(count):
+    """So many monthly events that count the last of some weekdays, in a time zone whose clock goes back by two days each month."""
+    lines = zone('odd', part('STANDARD', '20230701T090000', '-0100', '-0400'), part('DAYLIGHT', '20250228T090000', '+2359', '-2359', 'RRULE:FREQ=MONTHLY'))
+    for number in range(count):
+        lines += ['BEGIN:VEVENT', 'UID:%d' % number, 'DTSTART;TZID=odd:00010101T000000',
+                  'RRULE:FREQ=MONTHLY;BYDAY=1FR,1WE,-1TH,TU,5SU,MO,5SA;BYSETPOS=-1;COUNT=4294967295', 'END:VEVENT']
+    return calendar(lines)
+
+
 def far_apart(zones, count):
     """So many daily events a hundred years apart in each of so many time zones of two hourly observances that fall together."""
     lines = []
@@ -566,6 +575,15 @@ ROWS = [
      lambda: once_in('10200701T120000Z', 'RDATE:' + RARE, 'EXDATE:' + RARE), ['1024-01-01', '366000d', '--every-day'], 1, 32),
     ('a monthly rule and 10,000 EXDATEs of a thousand years, each day',
      lambda: once_in('10200701T120000Z', 'RRULE:FREQ=MONTHLY', 'EXDATE:' + RARE), ['1024-01-01', '366000d', '--every-day'], 1, 32),
+    ('150 places from the end of all hours of a month, under COUNT, each day of a hundred years',
+     lambda: rules(1, 'FREQ=MONTHLY;BYDAY=%s;BYHOUR=%s;BYSETPOS=%s;COUNT=4294967295' % (WEEK, HOURS, ','.join('-%d' % place for place in range(1, 300, 2)))),
+     ['0001-01-05', '36600d', '--every-day'], 6, 32),
+    ('5 months\' last of some weekdays under COUNT in a time zone that goes back by two days each month, each day of a thousand years',
+     lambda: monthly_last(5), ['2024-01-01', '366000d', '--every-day'], 1.5, 32),
+    ('two starts an hour apart each week in a time zone of two daily observances a minute apart, each day of a thousand years',
+     lambda: in_zone([part('STANDARD', '20000101T000000', '+0000', '+0100', 'RRULE:FREQ=DAILY'),
+                      part('STANDARD', '20000101T000100', '+0000', '+0000', 'RRULE:FREQ=DAILY')],
+                     '00010701T000000', 'RRULE:FREQ=WEEKLY;BYHOUR=0,1'), ['2024-01-01', '366000d', '--every-day'], 4, 32),
     ('400,000 faulty events, --keep-going', lambda: faulty(400_000), [*DAY, '--keep-going'], 12, 256),
 ]
 
