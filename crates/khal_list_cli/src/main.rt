@@ -113,11 +113,24 @@ fn write(
     )
 }
 
+/// The path of the folder of a request, from where the program stands. It goes there, if it can, so that the system finds each file by its name alone;
+/// but it stays where a path of zone files begins.
+fn inner_path(rt: HostRuntime, request: &Request) -> Result<String, Failure> {
+    let folder = request.folder();
+    let stays = request.zones().is_some_and(|zones| !zones.starts_with('/'));
+    let path = if !stays && env::set_current_dir(&rt, folder).is_ok() {
+        "."
+    } else {
+        folder
+    };
+    Ok(String::from_str(rt.alloc(), path)?)
+}
+
 /// Lists the folder of a request to the standard streams. It has its own room on the stack, beside that of
 /// the words, which takes the most.
 #[inline(never)]
 fn list(rt: HostRuntime, request: &Request) -> Result<Status, Failure> {
-    let folder = String::from_str(rt.alloc(), request.folder())?;
+    let folder = inner_path(rt, request)?;
     let mut source = FolderSource::open(rt, folder).map_err(Failure::of_folder)?;
     let mut zones = zones(rt, request)?;
     let mut out = Stream::new(output(rt)?);
